@@ -1,0 +1,10 @@
+//! The kinds of section.
+
+/// What a section of a job is.
+#[derive(Clone, Copy, Debug, PartialEq, Eq)]
+pub enum SectionKind {
+    Prolog,
+    Setup,
+    Page,
+    Trailer,
+}

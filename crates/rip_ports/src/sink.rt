@@ -1,0 +1,20 @@
+//! Sinks.
+ghost use Rattle.std.specs.Prelude.{◌≡◌, ◌≤◌, ℕ, List, Option, length, MatchResult, OnErr, option_map, ◌++◌};
+ghost use Rattle.rip_ports.specs.Ports.{HasRisen, Appends, AppendsFront};
+
+use crate::Failed;
+
+/// Takes bytes, in pieces.
+pub trait Sink {
+    /// The bytes so far, where the sink tells them.
+    ghost holds: { Self → Option (List ℕ) };
+
+    /// How often the sink has failed.
+    ghost faults: { Self → ℕ };
+
+    /// Takes the whole piece, or fails and has taken a part of it, from its front.
+    fn put(&mut self, bytes: &[u8]) -> Result<(), Failed>
+        ensures counted { faults self.old ≤ faults self.new }
+        ensures failed { OnErr result (HasRisen (faults self.old) (faults self.new)) }
+        ensures held { MatchResult result (λ _. Appends bytes.now (holds self.old) (holds self.new)) (λ _. AppendsFront bytes.now (holds self.old) (holds self.new)) };
+}
