@@ -218,3 +218,25 @@ impl Lengths {
         })
     }
 }
+
+impl PartialEq for Lengths {
+    ghost use Rattle.std.specs.Cmp.{partial_equiv_from_equiv};
+    ghost use Rattle.std.specs.Cmp.Lexicographic.{lists_equiv, pointwise};
+    ghost use Rattle.ps_shapes.specs.contracts.numbers.RealEq.TheImpl.Laws as laws;
+    ghost use Rattle.ps_shapes.specs.contracts.numbers.RealPartialEq.TheImpl as real;
+
+    ghost eq = { pointwise real.eq-value.it };
+
+    ghost laws = { partial_equiv_from_equiv (lists_equiv laws.laws-law) };
+
+    fn eq(&self, other: &Lengths) -> bool {
+        self.as_slice() == other.as_slice()
+    }
+}
+
+impl Eq for Lengths {
+    ghost use Rattle.std.specs.Cmp.Lexicographic.{lists_equiv};
+    ghost use Rattle.ps_shapes.specs.contracts.numbers.RealEq.TheImpl.Laws as laws;
+
+    ghost laws = { lists_equiv laws.laws-law };
+}
