@@ -148,7 +148,7 @@ impl PageSide {
     }
 }
 
-/// How the ends of a line look (section 4.8.2 of the language manual).
+/// How the ends of a line look (section 4.5.1 of the language manual).
 #[derive(Clone, Copy, Debug, PartialEq, Eq)]
 pub enum LineCap {
     Butt,
@@ -156,7 +156,7 @@ pub enum LineCap {
     Square,
 }
 
-/// How the corners of a line look (section 4.8.2 of the language manual).
+/// How the corners of a line look (section 4.5.1 of the language manual).
 #[derive(Clone, Copy, Debug, PartialEq, Eq)]
 pub enum LineJoin {
     Miter,
