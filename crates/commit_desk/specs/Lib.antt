@@ -1,3 +1,4 @@
 pub mod History
+pub mod State
 pub mod Slots
 pub mod Desk

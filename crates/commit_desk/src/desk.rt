@@ -1,5 +1,5 @@
 //! The desk.
-ghost use Rattle.std.specs.Prelude.{◌≡◌, ◌+◌, ◌*◌, ◌≤◌, ℕ, [], not, ◌&&◌, nat_lt, nat_le, is_some, sum_by, slice_index_or, vec_len, vec_capacity, IsTrue, IsFalse, IfOk, IfErr, OnOk, OnSome, IfNone, None};
+ghost use Rattle.std.specs.Prelude.{◌≡◌, ◌+◌, ◌*◌, ◌≤◌, ℕ, true, not, ◌&&◌, nat_lt, nat_le, is_some, sum_by, slice_index_or, vec_len, vec_capacity, IsTrue, IsFalse, IfOk, IfErr, OnOk, OnSome, IfNone, None};
 ghost use Rattle.commit_desk.specs.History.{has, claimed_count, committed_count, is_legal};
 ghost use Rattle.commit_desk.specs.Slots.{is_finished, is_emptied, piece_in, event_count};
 ghost use Rattle.commit_desk.specs.declared.event.Event.TheVariants.{Claimed, Finished, Taken};
@@ -42,14 +42,14 @@ pub struct Desk<C> {
 }
 
 impl<C: Drop> Desk<C> {
-    ghost use Rattle.commit_desk.specs.Desk.{page_count, lead_of, is_stopped, history_of, piece_on, accepts, claim_answer, claim_events, commit_events, SameLimits, Adds, Unchanged, LaysDown, TakesAway};
+    ghost use Rattle.commit_desk.specs.State.{initial_state, claim_answer, claim_events, accepts, commit_events};
+    ghost use Rattle.commit_desk.specs.Desk.{state_of, piece_on, SamePieces, Adds, Unchanged, LaysDown, TakesAway};
 
     /// A desk for so many pages, of which none is claimed yet. At most `ahead` pages may be claimed past the committed
     /// ones. It takes all the memory that the other calls will need.
     pub fn new(alloc: Global, pages: u32, ahead: u32) -> Result<Desk<C>, NoMemory>
         requires { 1 ≤ ahead }
-        ensures limits { IfOk result (λ desk. (page_count desk ≡ pages) × (lead_of desk ≡ ahead) × IsFalse (is_stopped desk)) }
-        ensures history { IfOk result (λ desk. history_of desk ≡ []) }
+        ensures state { IfOk result (λ desk. state_of desk ≡ initial_state pages ahead) }
         ensures pieces { IfOk result (λ desk. (page : ℕ) → piece_on desk page ≡ None) }
     {
         let history = Vec::with_capacity(alloc, 4 * pages as usize + 2)?;
@@ -67,23 +67,22 @@ impl<C: Drop> Desk<C> {
 
     /// How many pages are claimed.
     pub fn claimed(&self) -> u32
-        ensures { result ≡ claimed_count (history_of self.now) }
+        ensures { result ≡ claimed_count (state_of self.now).history }
     {
         self.claimed
     }
 
     /// How many pages are committed.
     pub fn committed(&self) -> u32
-        ensures { result ≡ committed_count (history_of self.now) }
+        ensures { result ≡ committed_count (state_of self.now).history }
     {
         self.committed
     }
 
     /// Claims the next page.
     pub fn claim(&mut self) -> Claim
-        ensures answer { result ≡ claim_answer self.old }
-        ensures noted { Adds self.old self.new (claim_events result) }
-        ensures limits { SameLimits self.old self.new }
+        ensures answer { result ≡ claim_answer (state_of self.old) }
+        ensures events { Adds self.old self.new (claim_events result) }
     {
         if self.stopped || self.claimed >= self.pages {
             return Claim::Over;
@@ -99,9 +98,8 @@ impl<C: Drop> Desk<C> {
 
     /// Lays the piece of a claimed page down. The piece comes back where the page isn't claimed or is finished already.
     pub fn finish(&mut self, page: u32, piece: C) -> Result<(), C>
-        ensures ok { OnOk result (IsTrue (accepts self.old page) × LaysDown self.old self.new page piece) }
-        ensures err { IfErr result (λ back. (back ≡ piece) × IsFalse (accepts self.old page) × Unchanged self.old self.new) }
-        ensures limits { SameLimits self.old self.new }
+        ensures ok { OnOk result (IsTrue (accepts (state_of self.old) page) × LaysDown self.old self.new page piece) }
+        ensures err { IfErr result (λ back. (back ≡ piece) × IsFalse (accepts (state_of self.old) page) × Unchanged self.old self.new) }
     {
         if page == 0 || page > self.claimed {
             return Err(piece);
@@ -119,7 +117,6 @@ impl<C: Drop> Desk<C> {
         ensures answer { result ≡ piece_on self.old page }
         ensures some { OnSome result (TakesAway self.old self.new page) }
         ensures none { IfNone result (Unchanged self.old self.new) }
-        ensures limits { SameLimits self.old self.new }
     {
         if page > self.pages {
             return None;
@@ -131,10 +128,9 @@ impl<C: Drop> Desk<C> {
 
     /// Tells that so many pages are committed.
     pub fn done(&mut self, count: u32)
-        requires present_or_above { committed_count (history_of self.old) ≤ count }
-        requires claimed { count ≤ claimed_count (history_of self.old) }
-        ensures noted { Adds self.old self.new (commit_events (committed_count (history_of self.old)) count) }
-        ensures limits { SameLimits self.old self.new }
+        requires present_or_above { committed_count (state_of self.old).history ≤ count }
+        requires claimed { count ≤ claimed_count (state_of self.old).history }
+        ensures { Adds self.old self.new (commit_events (state_of self.old) count) }
     {
         if count > self.committed {
             self.history.push_reserved(Event::Committed(count));
@@ -144,9 +140,8 @@ impl<C: Drop> Desk<C> {
 
     /// Ends the claims.
     pub fn stop(&mut self)
-        ensures stopped { IsTrue (is_stopped self.new) }
-        ensures unchanged { Unchanged self.old self.new }
-        ensures limits { (page_count self.new ≡ page_count self.old) × (lead_of self.new ≡ lead_of self.old) }
+        ensures state { state_of self.new ≡ record (state_of self.old) { stopped = true } }
+        ensures pieces { SamePieces self.old self.new }
     {
         self.stopped = true;
     }
