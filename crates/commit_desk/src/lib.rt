@@ -10,7 +10,7 @@ mod slot;
 
 pub use desk::Desk;
 pub use event::{Claim, Event};
-pub use law::each_at_most_once;
+pub use law::{each_at_most_once, made_by_its_calls, taken_is_laid_down};
 pub use piece_spec::PieceSpec;
 
 #[cfg(test)]
