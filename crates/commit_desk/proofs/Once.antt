@@ -1,10 +1,10 @@
 -- What a legal history says of each page.
-use Rattle.std.proofs.Common.{◌≡◌, ℕ, ◌+◌, ◌<◌, ◌≤◌, List, [], ◌∷◌, ◌++◌, Bool, true, false, not, ◌&&◌, ◌||◌, ◌==◌, nat_lt, nat_le, cond, refl, sym, ap, ◌∙◌, subst, count_by, arith, append_assoc, append-nil}
+use Rattle.std.proofs.Common.{◌≡◌, ℕ, ◌+◌, ◌<◌, ◌≤◌, List, [], ◌∷◌, ◌++◌, Bool, true, false, not, ◌||◌, ◌==◌, nat_lt, nat_le, cond, refl, sym, ap, ◌∙◌, subst, count_by, arith, append_assoc, append-nil}
 use Rattle.std.specs.List.{list_any}
 use Rattle.std.proofs.lemmas.List.Sums.{sum_by_push, sum_by-cons}
 use Rattle.commit_desk.specs.declared.event.Event.{Event}
 use Rattle.commit_desk.specs.declared.event.Event.TheVariants.{Claimed, Finished, Taken, Committed}
-use Rattle.commit_desk.specs.History.{is_same, has, is_claim, claimed_count, committed_count, may_follow, may_all_follow, is_legal}
+use Rattle.commit_desk.specs.History.{is_same, has, claimed_count, committed_count, may_follow, may_all_follow, is_legal}
 use Rattle.commit_desk.proofs.Histories.{first_true, second_true, claimed_count-push, committed_count-push, has-push, eq_is, le_is, lt_is}
 
 not_is : (b : Bool) → not b ≡ true → b ≡ false

@@ -1,13 +1,13 @@
 -- What the calls of a desk make of it, and what that says of the pieces taken.
-use Rattle.std.proofs.Common.{◌≡◌, ◌⊎◌, ℕ, zero, suc, ◌+◌, ◌<◌, ◌≤◌, List, [], ◌∷◌, ◌++◌, Bool, true, false, ◌==◌, cond, length, get_or, Option, Some, None, Contains, count_by, refl, sym, ap, ◌∙◌, subst, inl, inr, arith}
+use Rattle.std.proofs.Common.{◌≡◌, ◌⊎◌, ℕ, zero, suc, ◌+◌, ◌<◌, ◌≤◌, List, [], ◌∷◌, ◌++◌, Bool, true, false, ◌==◌, cond, length, get_or, Some, None, Contains, count_by, refl, sym, ap, ◌∙◌, subst, inl, inr, arith}
 use Rattle.std.proofs.lemmas.List.Sums.{sum_by_push}
-use Rattle.std.proofs.lemmas.Option.{same_Some, none-some}
+use Rattle.std.proofs.lemmas.Option.{same_Some}
 use Rattle.commit_desk.specs.declared.event.Event.{Event}
 use Rattle.commit_desk.specs.declared.event.Event.TheVariants.{Claimed, Finished, Taken, Committed}
 use Rattle.commit_desk.specs.declared.desk.Desk.{Desk}
 use Rattle.commit_desk.specs.History.{is_same}
 use Rattle.commit_desk.specs.State.{DeskState, after}
-use Rattle.commit_desk.specs.Desk.{state_of, piece_on, Adds, Unchanged, LaysDown, TakesAway, SamePieces}
+use Rattle.commit_desk.specs.Desk.{state_of, piece_on, Adds, Unchanged, LaysDown, TakesAway}
 use Rattle.commit_desk.specs.Calls.{Call, claim, finish, take, done, event_of, history_after, piece_after, TakesWhatLies, IsMadeBy}
 use Rattle.commit_desk.proofs.Histories.{is_eq, eq_is}
 use Rattle.commit_desk.proofs.Once.{legal_once}
@@ -128,6 +128,7 @@ finished_once {C} page piece other (call ∷ earlier) once c d =
         let n = ap (λ x. finish_count page (x ∷ earlier)) is ∙ finish_counts page laid earlier in
         let more = contained_counts page kept earlier in' in
         absurd (omega (arith, n, more, once))
+
     by_cases : (call ≡ finish page piece) ⊎ Contains earlier (finish page piece) → (call ≡ finish page other) ⊎ Contains earlier (finish page other) → (Contains earlier (finish page piece) → Contains earlier (finish page other) → piece ≡ other) → piece ≡ other
     by_cases (inl a) (inl b) before = same_piece page piece other (sym a ∙ b)
     by_cases (inl a) (inr b) before = twice piece other a b

@@ -3,7 +3,6 @@ use Rattle.std.specs.Prelude.{◌≡◌, ℕ, List, [], ◌∷◌, ◌++◌, ◌
 use Rattle.commit_desk.specs.declared.event.Event.{Event}
 use Rattle.commit_desk.specs.declared.event.Event.TheVariants.{Claimed, Finished, Taken, Committed}
 use Rattle.commit_desk.specs.declared.desk.Desk.{Desk}
-use Rattle.commit_desk.specs.State.{DeskState}
 use Rattle.commit_desk.specs.Desk.{state_of, piece_on}
 
 -- a call that had an effect: a page claimed, a piece laid down for a page, a piece taken, so many pages committed
