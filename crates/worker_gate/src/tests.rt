@@ -4,13 +4,12 @@ use super::*;
 use commit_desk::{Desk, PieceSpec};
 use rip_ports::Gate;
 use std::alloc::{AllocError, Global};
-use std::hint;
 use std::process::Abort;
 use std::sync::Wait;
 use std::sync::atomic::{AtomicBool, AtomicU64, Ordering};
 use std::test::*;
-use std::thread;
 use std::thread::Threads;
+use std::{hint, thread};
 
 // Enough turns for another thread to get on, and few enough for a test to end.
 const LIMIT: u64 = 1_000_000_000;
@@ -140,14 +139,7 @@ fn commit_all<
     T: Task<Piece = u64> + Send + Sync,
     G: Gate + Sync,
     R: Threads + Wait + Abort + Sync,
->(
-    rt: &'x R,
-    workers: u32,
-    pages: u32,
-    task: &'x T,
-    shared: &'x Shared<T>,
-    gate: &'x G,
-) {
+>(rt: &'x R, workers: u32, pages: u32, task: &'x T, shared: &'x Shared<T>, gate: &'x G) {
     thread::scope(thread::scope_env(), rt, |scope| {
         for _ in 0..workers {
             if scope.spawn(move || work(rt, task, shared, gate)).is_err() {
