@@ -168,6 +168,16 @@ fn each_page_is_made_once(rt: HostRuntime) -> Result<(), Fail> {
 }
 
 #[test]
+fn a_stop_ends_the_work(rt: HostRuntime) -> Result<(), Fail> {
+    let task = Squares::new(rt.alloc(), 50)?;
+    let shared = Shared::new(Desk::new(rt.alloc(), 50, 4).ok().ok_or("memory")?);
+    commit_all(&rt, 2, 3, &task, &shared, &task);
+    assert!(rt; task.made.is_once_each(3));
+    assert_eq!(rt; task.made.of(8), 0, "page 8 is more than 4 past page 3");
+    Ok(())
+}
+
+#[test]
 fn pieces_are_made_side_by_side(rt: HostRuntime) -> Result<(), Fail> {
     let task = Squares::new(rt.alloc(), 3)?;
     let shared = Shared::new(Desk::new(rt.alloc(), 3, 4).ok().ok_or("memory")?);
