@@ -1,0 +1,4 @@
+pub mod Lines
+pub mod Comments
+pub mod Marks
+pub mod Sections

@@ -1,0 +1,11 @@
+//! Cutting a job into its sections by the document structuring conventions.
+#![tactic(auto)]
+
+mod comment;
+mod line;
+mod mark;
+mod section;
+mod words;
+
+pub use ps_objects::{NoMemory, SectionKind};
+pub use section::{Section, Sections};

@@ -1,0 +1,50 @@
+//! Sections.
+ghost use Rattle.std.specs.Prelude.{◌≡◌, List};
+ghost use Rattle.dsc_split.specs.declared.section.Section.{Section};
+
+use ps_objects::SectionKind;
+use std::marker::Model;
+
+/// A section of a job: its number, from 1 on, its kind, the place of its first byte, and how many bytes it has.
+#[derive(Clone, Copy, Debug, PartialEq, Eq)]
+pub struct Section {
+    pub number: u32,
+    pub kind: SectionKind,
+    pub from: u64,
+    pub len: u64,
+}
+
+/// The sections of a job, in their order.
+#[derive(Drop)]
+pub struct Sections {
+    items: Vec<Section>,
+}
+
+impl Model for Sections {
+    ghost use Rattle.std.specs.Prelude.{List};
+    ghost use Rattle.dsc_split.specs.declared.section.Section.{Section};
+
+    ghost Value = { List Section };
+
+    ghost view = { λ s. s.items.items };
+}
+
+impl Sections {
+    pub fn from_vec(items: Vec<Section>) -> Sections
+        ensures { result ≡ items.items }
+    {
+        Sections { items }
+    }
+
+    pub fn into_vec(self) -> Vec<Section>
+        ensures { result.items ≡ self }
+    {
+        self.items
+    }
+
+    pub fn as_slice(&self) -> &[Section]
+        ensures { result.now ≡ self.now }
+    {
+        self.items.as_slice()
+    }
+}
