@@ -1,2 +1,4 @@
 pub mod Searches
 pub mod WordLemmas
+pub mod LineLemmas
+pub mod MarkLemmas

@@ -2,3 +2,4 @@ pub mod Lines
 pub mod Comments
 pub mod Marks
 pub mod Sections
+pub mod Cuts

@@ -28,12 +28,14 @@ unfoldable pub lines_len : ℕ → List ℕ → ℕ
 lines_len zero text = 0
 lines_len (suc count) text = line_len text + lines_len count (drop (line_len text) text)
 
+-- N bytes or N lines, as the words of a `%%BeginData:` line count them
+abbrev pub counted_len : List (List ℕ) → List ℕ → ℕ
+counted_len counts after = if counts_lines counts then lines_len (counted counts) after else counted counts
+
 -- `%%BeginData: N` passes over N bytes or N lines after its own line, and `%%BeginBinary: N` over N bytes.
 -- The words follow the colon. Where less is left, all is passed over.
 abbrev pub data_len : Option Comment → List ℕ → List ℕ → ℕ
-data_len (Some BeginData) line after =
-    let counts = words (drop (length (codes "%%BeginData:")) line) in
-    if counts_lines counts then lines_len (counted counts) after else counted counts
+data_len (Some BeginData) line after = counted_len (words (drop (length (codes "%%BeginData:")) line)) after
 data_len (Some BeginBinary) line after = counted (words (drop (length (codes "%%BeginBinary:")) line))
 data_len _ line after = 0
 

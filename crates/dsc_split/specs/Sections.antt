@@ -71,6 +71,10 @@ sections_of job =
     if has_header job then sections_at start end (marks_of 0 (lines_at start 0 (body_of job)))
     else section 1 kind.Prolog start end ∷ section 2 kind.Setup end end ∷ section 3 kind.Trailer end end ∷ []
 
+-- the bytes of a section
+abbrev pub text_of : List ℕ → Section → List ℕ
+text_of job s = take s.len (drop s.from job)
+
 -- how many sections are pages
 abbrev pub is_page : Section → Bool
 is_page s = is_page_kind s.kind where

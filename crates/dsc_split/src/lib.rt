@@ -5,7 +5,9 @@ mod comment;
 mod line;
 mod mark;
 mod section;
+mod split;
 mod words;
 
 pub use ps_objects::{NoMemory, SectionKind};
 pub use section::{Section, Sections};
+pub use split::{MAX_PAGES, SplitError};

@@ -1,6 +1,6 @@
 //! Sections.
-ghost use Rattle.std.specs.Prelude.{◌≡◌, List};
-ghost use Rattle.dsc_split.specs.declared.section.Section.{Section};
+ghost use Rattle.std.specs.Prelude.{◌≡◌, ◌+◌, ◌≤◌, length};
+ghost use Rattle.dsc_split.specs.Sections.{text_of};
 
 use ps_objects::SectionKind;
 use std::marker::Model;
@@ -12,6 +12,17 @@ pub struct Section {
     pub kind: SectionKind,
     pub from: u64,
     pub len: u64,
+}
+
+impl Section {
+    /// The bytes of the section.
+    pub fn text<'a>(&self, job: &'a [u8]) -> &'a [u8]
+        requires { self.now.from + self.now.len ≤ length job.now }
+        ensures { result.now ≡ text_of job.now self.now }
+    {
+        let from = self.from as usize;
+        &job[from..from + self.len as usize]
+    }
 }
 
 /// The sections of a job, in their order.

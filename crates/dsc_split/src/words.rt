@@ -67,6 +67,7 @@ fn number_of(word: &[u8]) -> usize
 }
 
 /// What the words of a comment count.
+#[derive(Clone, Copy)]
 pub(crate) struct Count {
     pub(crate) number: usize,
     pub(crate) by_lines: bool,

@@ -1,0 +1,96 @@
+//! Cutting a job at its marks.
+ghost use Rattle.std.specs.Prelude.{◌≡◌, ◌≢◌, ℕ, ◌+◌, ◌-◌, ◌*◌, ◌<◌, ◌≤◌, ◌^◌, List, [], ◌∷◌, ◌++◌, length, true, if◌then◌else◌, nat_le, IfOk, IfErr, OnOk};
+ghost use Rattle.std.specs.List.{prefix_len, suffix_len};
+ghost use Rattle.ps_objects.specs.declared.section.SectionKind.TheVariants as kind;
+ghost use Rattle.dsc_split.specs.declared.mark.Mark.{Mark};
+ghost use Rattle.dsc_split.specs.declared.section.Section.{Section};
+ghost use Rattle.dsc_split.specs.Sections.{is_control_d, start_of, end_of, prolog_end, section, sections_of, page_count};
+ghost use Rattle.dsc_split.specs.Cuts.{is_part, place_of, after_prolog, Leads, Refuses};
+
+use crate::mark::{Mark, Marks};
+use crate::section::{Section, Sections};
+use ps_objects::{NoMemory, SectionKind};
+use std::alloc::Global;
+
+/// The most pages that a job may have.
+pub const MAX_PAGES: u32 = 100_000;
+
+const MAX_SECTIONS: u32 = 100_003;
+
+const CONTROL_D: u8 = 4;
+
+/// Why a job isn't split.
+#[derive(Clone, Copy, Debug, PartialEq, Eq)]
+pub enum SplitError {
+    /// The job has more than `MAX_PAGES` pages: so many.
+    TooManyPages { count: u32 },
+    NoMemory,
+}
+
+impl From<NoMemory> for SplitError {
+    ghost use Rattle.std.specs.Prelude.{◌≡◌};
+    ghost use Rattle.dsc_split.specs.declared.split.SplitError.TheVariants as refusal;
+
+    ghost from_gives = { λ _ error. error ≡ refusal.NoMemory };
+
+    fn from(_: NoMemory) -> SplitError {
+        SplitError::NoMemory
+    }
+}
+
+impl Mark {
+    /// The place at which the prolog ends where the mark is the first.
+    fn place(self) -> usize
+        ensures { result ≡ place_of self }
+    {
+        match self {
+            Mark::EndProlog(to) => to,
+            Mark::Page(from) => from,
+            Mark::Trailer(from) => from,
+        }
+    }
+}
+
+/// The sections that are closed, and the number, the kind and the place of the one that is open.
+#[derive(Drop)]
+struct Cutter {
+    sections: Vec<Section>,
+    number: u32,
+    kind: SectionKind,
+    from: usize,
+}
+
+impl Cutter {
+    fn new(alloc: Global, start: usize) -> Cutter
+        ensures sections { result.sections.items ≡ [] }
+        ensures number { result.number ≡ 1 }
+        ensures kind { result.kind ≡ kind.Prolog }
+        ensures from { result.from ≡ start }
+    {
+        Cutter {
+            sections: Vec::new(alloc),
+            number: 1,
+            kind: SectionKind::Prolog,
+            from: start,
+        }
+    }
+
+    /// Closes the open section at a place. Where there are too many sections already it isn't kept.
+    fn close(&mut self, at: usize) -> Result<(), NoMemory>
+        requires { self.old.from ≤ at }
+        ensures sections { OnOk result (self.new.sections.items ≡ (if nat_le self.old.number MAX_SECTIONS then self.old.sections.items ++ section self.old.number self.old.kind self.old.from at ∷ [] else self.old.sections.items)) }
+        ensures number { self.new.number ≡ self.old.number }
+        ensures kind { self.new.kind ≡ self.old.kind }
+        ensures from { self.new.from ≡ self.old.from }
+    {
+        if self.number <= MAX_SECTIONS {
+            self.sections.push(Section {
+                number: self.number,
+                kind: self.kind,
+                from: self.from as u64,
+                len: (at - self.from) as u64,
+            })?;
+        }
+        Ok(())
+    }
+}
