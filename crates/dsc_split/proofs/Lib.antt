@@ -2,3 +2,4 @@ pub mod Searches
 pub mod WordLemmas
 pub mod LineLemmas
 pub mod MarkLemmas
+pub mod CutLemmas

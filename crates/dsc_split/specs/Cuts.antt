@@ -5,6 +5,7 @@ use Rattle.ps_objects.specs.declared.section.SectionKind.TheVariants as kind
 use Rattle.dsc_split.specs.declared.section.Section.{Section}
 use Rattle.dsc_split.specs.declared.mark.Mark.{Mark}
 use Rattle.dsc_split.specs.declared.mark.Mark.TheVariants.{EndProlog, Page, Trailer}
+use Rattle.dsc_split.specs.declared.split.Cutter.{Cutter}
 use Rattle.dsc_split.specs.declared.split.SplitError.{SplitError}
 use Rattle.dsc_split.specs.declared.split.SplitError.TheVariants.{TooManyPages, NoMemory}
 use Rattle.dsc_split.specs.declared.split.TheConstants.{MAX_PAGES, MAX_SECTIONS}
@@ -50,7 +51,21 @@ sections_left number kind.Setup from end marks = section number kind.Setup from 
 sections_left number kind.Page from end marks = section number kind.Page from (part_end end marks) ∷ pages_and_trailer (number + 1) end marks
 sections_left number kind.Trailer from end marks = section number kind.Trailer from end ∷ []
 
--- the sections of the whole job come of those that are closed, the one that is open and the marks that are left
-pub record Leads (closed : List Section) (number : ℕ) (open_kind : SectionKind) (from end : ℕ) (marks : List Mark) (whole : List Section) : Type 0 where
-  pub count : number + length (sections_left number open_kind from end marks) ≡ length whole + 1
-  pub list : number ≤ MAX_SECTIONS + 1 → closed ++ sections_left number open_kind from end marks ≡ whole
+-- the sections that a cutter still has to close
+abbrev pub left_of : Cutter → ℕ → List Mark → List Section
+left_of cutter end marks = sections_left cutter.number cutter.kind cutter.from end marks
+
+-- closing what is open at a place and opening a kind there, before the later marks, leaves the other sections
+abbrev pub Continues : Cutter → SectionKind → ℕ → ℕ → List Mark → List Mark → Type 0
+Continues cutter kind at end marks later =
+    left_of cutter end marks ≡ section cutter.number cutter.kind cutter.from at ∷ sections_left (cutter.number + 1) kind at end later
+
+-- all sections come of those that are closed and those that are left; more than a job may have aren't kept
+pub record Leads (cutter : Cutter) (end : ℕ) (marks : List Mark) (whole : List Section) : Type 0 where
+  pub count : cutter.number + length (left_of cutter end marks) ≡ length whole + 1
+  pub list : cutter.number ≤ MAX_SECTIONS + 1 → cutter.sections.items ++ left_of cutter end marks ≡ whole
+
+-- there are more sections than a job may have: prolog, setup, trailer and so many pages
+abbrev pub IsTooMany : List Section → SplitError → Type 0
+IsTooMany whole (TooManyPages count) = (length whole ≡ count + 3) × (MAX_SECTIONS < length whole)
+IsTooMany whole NoMemory = Unit {0}

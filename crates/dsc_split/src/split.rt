@@ -5,7 +5,7 @@ ghost use Rattle.ps_objects.specs.declared.section.SectionKind.TheVariants as ki
 ghost use Rattle.dsc_split.specs.declared.mark.Mark.{Mark};
 ghost use Rattle.dsc_split.specs.declared.section.Section.{Section};
 ghost use Rattle.dsc_split.specs.Sections.{is_control_d, start_of, end_of, prolog_end, section, sections_of, page_count};
-ghost use Rattle.dsc_split.specs.Cuts.{is_part, place_of, after_prolog, Leads, Refuses};
+ghost use Rattle.dsc_split.specs.Cuts.{place_of, after_prolog, Continues, Leads, IsTooMany, Refuses};
 
 use crate::mark::{Mark, Marks};
 use crate::section::{Section, Sections};
@@ -92,5 +92,96 @@ impl Cutter {
             })?;
         }
         Ok(())
+    }
+
+    /// Closes the open section at a place and begins another there.
+    #[tactic(auto, using(crate::proofs::CutLemmas::leads_on))]
+    fn open(&mut self, kind: SectionKind, at: usize) -> Result<(), NoMemory>
+        requires forward { self.old.from ≤ at }
+        requires room { self.old.number + 1 < 2 ^ 32 }
+        ensures number { OnOk result (self.new.number ≡ self.old.number + 1) }
+        ensures kind { OnOk result (self.new.kind ≡ kind) }
+        ensures from { OnOk result (self.new.from ≡ at) }
+        ensures leads { OnOk result ((end : ℕ) (marks later : List Mark) (whole : List Section) → Continues self.old kind at end marks later → Leads self.old end marks whole → Leads self.new end later whole) }
+    {
+        self.close(at)?;
+        self.number += 1;
+        self.kind = kind;
+        self.from = at;
+        Ok(())
+    }
+
+    /// Closes the prolog at a place, if it is open.
+    fn end_prolog(&mut self, at: usize) -> Result<(), NoMemory>
+        requires forward { self.old.from ≤ at }
+        requires room { self.old.number + 1 < 2 ^ 32 }
+        ensures number { OnOk result (self.new.number ≤ self.old.number + 1) }
+        ensures kind { OnOk result (self.new.kind ≡ after_prolog self.old.kind) }
+        ensures from { OnOk result (self.new.from ≤ at) }
+        ensures leads { OnOk result ((end : ℕ) (marks : List Mark) (whole : List Section) → prolog_end end marks ≡ at → Leads self.old end marks whole → Leads self.new end marks whole) }
+    {
+        if self.kind == SectionKind::Prolog {
+            self.open(SectionKind::Setup, at)?;
+        }
+        Ok(())
+    }
+
+    /// Cuts the job at a mark.
+    fn cut(&mut self, mark: Mark) -> Result<(), NoMemory>
+        requires forward { self.old.from ≤ place_of mark }
+        requires room { self.old.number + 2 < 2 ^ 32 }
+        ensures number { OnOk result (self.new.number ≤ self.old.number + 2) }
+        ensures from { OnOk result (self.new.from ≤ place_of mark) }
+        ensures leads { OnOk result ((end : ℕ) (marks : List Mark) (whole : List Section) → Leads self.old end (mark ∷ marks) whole → Leads self.new end marks whole) }
+    {
+        if self.kind == SectionKind::Trailer {
+            return Ok(());
+        }
+        self.end_prolog(mark.place())?;
+        match mark {
+            Mark::EndProlog(_) => Ok(()),
+            Mark::Page(from) => {
+                self.open(SectionKind::Page, from)?;
+                Ok(())
+            }
+            Mark::Trailer(from) => {
+                self.open(SectionKind::Trailer, from)?;
+                Ok(())
+            }
+        }
+    }
+
+    /// Closes setup or a page at the job's end, if it is open.
+    fn end_part(&mut self, end: usize) -> Result<(), NoMemory>
+        requires forward { self.old.from ≤ end }
+        requires room { self.old.number + 1 < 2 ^ 32 }
+        requires kind { self.old.kind ≢ kind.Prolog }
+        ensures number { OnOk result (self.new.number ≤ self.old.number + 1) }
+        ensures kind { OnOk result (self.new.kind ≡ kind.Trailer) }
+        ensures from { OnOk result (self.new.from ≤ end) }
+        ensures leads { OnOk result ((whole : List Section) → Leads self.old end [] whole → Leads self.new end [] whole) }
+    {
+        if self.kind != SectionKind::Trailer {
+            self.open(SectionKind::Trailer, end)?;
+        }
+        Ok(())
+    }
+
+    /// The sections of the job.
+    fn finish(mut self, end: usize) -> Result<Sections, SplitError>
+        requires forward { self.from ≤ end }
+        requires room { self.number + 2 < 2 ^ 32 }
+        ensures ok { IfOk result (λ sections. (whole : List Section) → Leads self end [] whole → (sections ≡ whole) × (length whole ≤ MAX_SECTIONS)) }
+        ensures err { IfErr result (λ error. (whole : List Section) → Leads self end [] whole → IsTooMany whole error) }
+    {
+        self.end_prolog(end)?;
+        self.end_part(end)?;
+        self.close(end)?;
+        if self.number > MAX_SECTIONS {
+            return Err(SplitError::TooManyPages {
+                count: self.number - (MAX_SECTIONS - MAX_PAGES),
+            });
+        }
+        Ok(Sections::from_vec(self.sections))
     }
 }
