@@ -7,8 +7,8 @@ use Rattle.ps_objects.specs.declared.section.SectionKind.TheVariants as kind
 use Rattle.dsc_split.specs.declared.section.Section.{Section}
 use Rattle.dsc_split.specs.declared.mark.Mark.{Mark}
 use Rattle.dsc_split.specs.declared.mark.Mark.TheVariants.{EndProlog, Page, Trailer}
-use Rattle.dsc_split.specs.declared.split.Cutter.{Cutter}
-use Rattle.dsc_split.specs.declared.split.TheConstants.{MAX_SECTIONS}
+use Rattle.dsc_split.specs.declared.cutter.Cutter.{Cutter}
+use Rattle.dsc_split.specs.declared.cutter.TheConstants.{MAX_SECTIONS}
 use Rattle.dsc_split.specs.Sections.{section, prolog_end, part_end, pages_and_trailer}
 use Rattle.dsc_split.specs.Cuts.{is_part, after_prolog, place_of, sections_left, left_of, Continues, Leads}
 
@@ -20,18 +20,18 @@ pub leads_on : (old new : Cutter) (kind : SectionKind) (at end : ℕ) (marks lat
 leads_on old new kind at end marks later whole kept n k a step h =
     let others : List Section = sections_left (old.number + 1) kind at end later in
     let same : left_of new end later ≡ others =
-      ap (λ x. sections_left x new.kind new.from end later) n ∙ ap (λ x. sections_left (old.number + 1) x new.from end later) k
-      ∙ ap (λ x. sections_left (old.number + 1) kind x end later) a
+    ap (λ x. sections_left x new.kind new.from end later) n ∙ ap (λ x. sections_left (old.number + 1) x new.from end later) k
+    ∙ ap (λ x. sections_left (old.number + 1) kind x end later) a
     in
     record {
       count = omega (arith, n, h.count, ap length step, ap length same);
       list = λ few.
-        let within : nat_le old.number MAX_SECTIONS ≡ true = le-leb _ _ (omega (arith, n, few)) in
-        ap (λ x. new.sections.items ++ x) same
-        ∙ ap (λ x. x ++ others) (kept ∙ cond-true _ _ _ within)
-        ∙ append_assoc old.sections.items (section old.number old.kind old.from at ∷ []) others
-        ∙ ap (λ x. old.sections.items ++ x) (sym step)
-        ∙ h.list (omega (arith, n, few));
+          let within : nat_le old.number MAX_SECTIONS ≡ true = le-leb _ _ (omega (arith, n, few)) in
+          ap (λ x. new.sections.items ++ x) same
+          ∙ ap (λ x. x ++ others) (kept ∙ cond-true _ _ _ within)
+          ∙ append_assoc old.sections.items (section old.number old.kind old.from at ∷ []) others
+          ∙ ap (λ x. old.sections.items ++ x) (sym step)
+          ∙ h.list (omega (arith, n, few));
     }
 
 -- nothing is lost where the prolog ends
@@ -83,11 +83,13 @@ pub closes : (old new : Cutter) (end : ℕ) (whole : List Section) → old.kind 
 unfolding sections_left
 closes old new end whole k kept n h =
     let last : left_of old end [] ≡ section old.number old.kind old.from end ∷ [] =
-      ap (λ x. sections_left old.number x old.from end []) k ∙ ap (λ x. section old.number x old.from end ∷ []) (sym k)
-    in
-    (omega (arith, n, h.count, ap length last), λ few.
-      let within : nat_le old.number MAX_SECTIONS ≡ true = le-leb _ _ (omega (arith, n, few)) in
-      kept ∙ cond-true _ _ _ within ∙ ap (λ x. old.sections.items ++ x) (sym last) ∙ h.list (omega (arith, n, few)))
+    ap (λ x. sections_left old.number x old.from end []) k ∙ ap (λ x. section old.number x old.from end ∷ []) (sym k)
+    in (
+      omega (arith, n, h.count, ap length last),
+      λ few.
+          let within : nat_le old.number MAX_SECTIONS ≡ true = le-leb _ _ (omega (arith, n, few)) in
+          kept ∙ cond-true _ _ _ within ∙ ap (λ x. old.sections.items ++ x) (sym last) ∙ h.list (omega (arith, n, few)),
+    )
 
 -- a page or the trailer begins
 pub page_continues_at : (number from at end : ℕ) (open_kind : SectionKind) (marks : List Mark) → is_part open_kind ≡ true

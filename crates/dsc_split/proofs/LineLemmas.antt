@@ -51,7 +51,7 @@ lines_len_all zero text h = omega arith
 lines_len_all (suc count) text h =
     let pos : 0 < length text → 0 < line_len text = line_len_pos text in
     let short : length (drop (line_len text) text) ≤ count =
-      ⊎_elim (λ lt. omega (arith, pos lt, length-drop (line_len text) text)) (λ ge. omega (arith, length-drop (line_len text) text)) (cases_lt 0 (length text))
+    ⊎_elim (λ lt. omega (arith, pos lt, length-drop (line_len text) text)) (λ ge. omega (arith, length-drop (line_len text) text)) (cases_lt 0 (length text))
     in
     omega (arith, lines_len_all count (drop (line_len text) text) short, line_len_le text, length-drop (line_len text) text)
 
@@ -61,7 +61,7 @@ lines_len_capped count most number text e h =
     ⊎_elim
     (λ lt. let same : number ≡ count = omega arith in omega (arith, ap (λ n. lines_len n text) same, lines_len_le count text))
     (λ ge. let many : length text ≤ number = omega arith in let all : length text ≤ count = omega arith in
-      omega (arith, lines_len_all number text many, lines_len_all count text all))
+    omega (arith, lines_len_all number text many, lines_len_all count text all))
     (cases_lt count most)
 
 -- a line more
@@ -111,10 +111,10 @@ lines_step place len (b ∷ rest) h e =
     let one : len ≡ suc (len - 1) = omega arith in
     let reach : ℕ = reach_of text in
     let same = lines_same (place + 1 + (reach - 1)) (place + len) (reach - 1) (len - 1) rest
-      (⊎_elim
-       (λ lt. inl (omega (arith, length-drop (line_len text) text), omega (arith, length-drop (line_len text) text)))
-       (λ ge. inr (omega (arith, length-drop (line_len text) text), omega (arith, length-drop (line_len text) text)))
-       (cases_lt passed (length (drop (line_len text) text))))
+    (⊎_elim
+    (λ lt. inl (omega (arith, length-drop (line_len text) text), omega (arith, length-drop (line_len text) text)))
+    (λ ge. inr (omega (arith, length-drop (line_len text) text), omega (arith, length-drop (line_len text) text)))
+    (cases_lt passed (length (drop (line_len text) text))))
     in
     ap (λ later. record { from = place; to = place + line_len text; comment = comment_of (line_of text) } ∷ later)
     (lines_passed (place + 1) (reach - 1) rest ∙ same ∙ ap (λ n. lines_at (place + len) 0 (drop n text)) (sym one))

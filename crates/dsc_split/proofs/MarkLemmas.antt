@@ -17,7 +17,7 @@ marks_end depth at job h = ap (λ text. marks_of depth (lines_at at 0 text)) (dr
 marks_after : (depth at len : ℕ) (job text : List ℕ) → text ≡ drop at job → at < length job
     → len ≡ line_len text + min (data_len (comment_of (line_of text)) (line_of text) (drop (line_len text) text)) (length (drop (line_len text) text))
     → marks_from depth at job
-      ≡ option_to_list (mark_of depth (comment_of (line_of text)) at (at + line_len text)) ++ marks_from (depth_after depth (comment_of (line_of text))) (at + len) job
+    ≡ option_to_list (mark_of depth (comment_of (line_of text)) at (at + line_len text)) ++ marks_from (depth_after depth (comment_of (line_of text))) (at + len) job
 unfolding marks_of
 marks_after depth at len job text t h e =
     let comment = comment_of (line_of text) in
@@ -35,12 +35,12 @@ marks_step depth at len passed deeper job text line after comment mark h t l n a
     let comment_is : comment ≡ comment_of (line_of text) = c ∙ ap comment_of l in
     let after_is : after ≡ drop (line_len text) text = a ∙ ap (λ k. drop k text) n in
     let passed_is : passed ≡ min (data_len (comment_of (line_of text)) (line_of text) (drop (line_len text) text)) (length (drop (line_len text) text)) =
-      p ∙ ap (λ k. min (data_len k line after) (length after)) comment_is
-      ∙ ap (λ k. min (data_len (comment_of (line_of text)) k after) (length after)) l
-      ∙ ap (λ k. min (data_len (comment_of (line_of text)) (line_of text) k) (length k)) after_is
+    p ∙ ap (λ k. min (data_len k line after) (length after)) comment_is
+    ∙ ap (λ k. min (data_len (comment_of (line_of text)) k after) (length after)) l
+    ∙ ap (λ k. min (data_len (comment_of (line_of text)) (line_of text) k) (length k)) after_is
     in
     let mark_is : mark_of depth (comment_of (line_of text)) at (at + line_len text) ≡ mark =
-      sym (m ∙ ap (λ k. mark_of depth k at (at + len)) comment_is ∙ ap (λ k. mark_of depth (comment_of (line_of text)) at (at + k)) n)
+    sym (m ∙ ap (λ k. mark_of depth k at (at + len)) comment_is ∙ ap (λ k. mark_of depth (comment_of (line_of text)) at (at + k)) n)
     in
     let deeper_is : depth_after depth (comment_of (line_of text)) ≡ deeper = sym (d ∙ ap (depth_after depth) comment_is) in
     let place : at + (len + passed) ≡ at + len + passed = omega arith in

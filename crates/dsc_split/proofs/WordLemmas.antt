@@ -64,8 +64,8 @@ pub no_word : (text body word rest : List ℕ) → body ≡ drop (blank_len text
     → length word ≡ 0 → (words text ≡ []) × (words rest ≡ [])
 no_word text body word rest e f g h =
     let empty : body ≡ [] = ⊎_elim
-      (λ none. e ∙ none)
-      (λ some. absurd (let some' : 0 < length (take (word_len body) body) = subst (λ b. 0 < length (take (word_len b) b)) (sym e) some in omega (arith, ap length f)))
-      (behind text)
+    (λ none. e ∙ none)
+    (λ some. absurd (let some' : 0 < length (take (word_len body) body) = subst (λ b. 0 < length (take (word_len b) b)) (sym e) some in omega (arith, ap length f)))
+    (behind text)
     in
     (words_past_blanks text ∙ ap words (sym e) ∙ ap words empty, ap words g ∙ ap (λ b. words (drop (word_len b) b)) empty)

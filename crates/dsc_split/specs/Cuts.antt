@@ -5,10 +5,10 @@ use Rattle.ps_objects.specs.declared.section.SectionKind.TheVariants as kind
 use Rattle.dsc_split.specs.declared.section.Section.{Section}
 use Rattle.dsc_split.specs.declared.mark.Mark.{Mark}
 use Rattle.dsc_split.specs.declared.mark.Mark.TheVariants.{EndProlog, Page, Trailer}
-use Rattle.dsc_split.specs.declared.split.Cutter.{Cutter}
-use Rattle.dsc_split.specs.declared.split.SplitError.{SplitError}
-use Rattle.dsc_split.specs.declared.split.SplitError.TheVariants.{TooManyPages, NoMemory}
-use Rattle.dsc_split.specs.declared.split.TheConstants.{MAX_PAGES, MAX_SECTIONS}
+use Rattle.dsc_split.specs.declared.cutter.Cutter.{Cutter}
+use Rattle.dsc_split.specs.declared.cutter.SplitError.{SplitError}
+use Rattle.dsc_split.specs.declared.cutter.SplitError.TheVariants.{TooManyPages, NoMemory}
+use Rattle.dsc_split.specs.declared.cutter.TheConstants.{MAX_PAGES, MAX_SECTIONS}
 use Rattle.dsc_split.specs.Sections.{section, sections_of, page_count, prolog_end, part_end, pages_and_trailer}
 
 -- when each refusal comes: too many pages exactly where there are more than 100,000, with their number

@@ -2,12 +2,12 @@
 #![tactic(auto)]
 
 mod comment;
+mod cutter;
 mod line;
 mod mark;
 mod section;
-mod split;
 mod words;
 
+pub use cutter::{MAX_PAGES, SplitError, split};
 pub use ps_objects::{NoMemory, SectionKind};
 pub use section::{Section, Sections};
-pub use split::{MAX_PAGES, SplitError};

@@ -61,7 +61,9 @@ fn number_of(word: &[u8]) -> usize
         if !byte.is_ascii_digit() {
             return 0;
         }
-        value = value.saturating_mul(10).saturating_add((*byte - b'0') as usize);
+        value = value
+            .saturating_mul(10)
+            .saturating_add((*byte - b'0') as usize);
     }
     value
 }

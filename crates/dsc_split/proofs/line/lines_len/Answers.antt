@@ -9,11 +9,12 @@ loop-left-preserved c =
     let text = c.args.text.now in
     let len = c.loop-left.len in
     let left = c.loop-left.left in
-    let taken : c.first_line.result.len ≡ line_len (drop len text) = c.first_line.ensures.len ∙ ap line_len (take_rest text len) in
-    (omega (arith, line_len_le (drop len text), length-drop len text),
-     ap (λ n. len + n + lines_len (left - 1) (drop (len + n) text)) taken
-     ∙ sym (lines_len_more left len text (omega arith) (omega arith))
-     ∙ c.loop-left.invariant.1)
+    let taken : c.first_line.result.len ≡ line_len (drop len text) = c.first_line.ensures.len ∙ ap line_len (take_rest text len) in (
+      omega (arith, line_len_le (drop len text), length-drop len text),
+      ap (λ n. len + n + lines_len (left - 1) (drop (len + n) text)) taken
+          ∙ sym (lines_len_more left len text (omega arith) (omega arith))
+          ∙ c.loop-left.invariant.1,
+    )
 
 pub returns-else-len-text-clause-value : goal.returns-else-len-text-clause-value
 returns-else-len-text-clause-value c =

@@ -1,10 +1,10 @@
 //! Cutting a job at its marks.
-ghost use Rattle.std.specs.Prelude.{◌≡◌, ◌≢◌, ℕ, ◌+◌, ◌-◌, ◌*◌, ◌<◌, ◌≤◌, ◌^◌, List, [], ◌∷◌, ◌++◌, length, true, if◌then◌else◌, nat_le, IfOk, IfErr, OnOk};
-ghost use Rattle.std.specs.List.{prefix_len, suffix_len};
+ghost use Rattle.std.specs.Prelude.{◌≡◌, ◌≢◌, ℕ, ◌+◌, ◌-◌, ◌*◌, ◌<◌, ◌≤◌, ◌^◌, List, [], ◌∷◌, ◌++◌, length, true, if◌then◌else◌, nat_le, nat_eq, drop, codes, IfOk, IfErr, OnOk};
+ghost use Rattle.std.specs.List.{suffix_len, starts_with};
 ghost use Rattle.ps_objects.specs.declared.section.SectionKind.TheVariants as kind;
 ghost use Rattle.dsc_split.specs.declared.mark.Mark.{Mark};
 ghost use Rattle.dsc_split.specs.declared.section.Section.{Section};
-ghost use Rattle.dsc_split.specs.Sections.{is_control_d, start_of, end_of, prolog_end, section, sections_of, page_count};
+ghost use Rattle.dsc_split.specs.Sections.{is_control_d, start_of, prolog_end, section, sections_of, page_count};
 ghost use Rattle.dsc_split.specs.Cuts.{place_of, after_prolog, Continues, Leads, IsTooMany, Refuses};
 
 use crate::mark::{Mark, Marks};
@@ -29,7 +29,7 @@ pub enum SplitError {
 
 impl From<NoMemory> for SplitError {
     ghost use Rattle.std.specs.Prelude.{◌≡◌};
-    ghost use Rattle.dsc_split.specs.declared.split.SplitError.TheVariants as refusal;
+    ghost use Rattle.dsc_split.specs.declared.cutter.SplitError.TheVariants as refusal;
 
     ghost from_gives = { λ _ error. error ≡ refusal.NoMemory };
 
@@ -184,4 +184,53 @@ impl Cutter {
         }
         Ok(Sections::from_vec(self.sections))
     }
+}
+
+/// How many Control-D bytes a job begins with.
+fn start_of(job: &[u8]) -> usize
+    ensures value { result ≡ start_of job.now }
+    ensures bound { result ≤ length job.now }
+{
+    job.iter().take_while(|byte| **byte == CONTROL_D).count()
+}
+
+/// How many Control-D bytes a text ends with.
+fn trailing_len(text: &[u8]) -> usize
+    ensures value { result ≡ suffix_len is_control_d text.now }
+    ensures bound { result ≤ length text.now }
+{
+    text.iter()
+        .rev()
+        .take_while(|byte| **byte == CONTROL_D)
+        .count()
+}
+
+/// The marks of a job that begins at a place: none where it has no header.
+fn marks_of_job(text: &[u8], start: usize) -> Marks<'_>
+    requires { start ≤ length text.now }
+    ensures job { result.job.now ≡ text.now }
+    ensures at { result.at ≡ (if starts_with nat_eq (drop start text.now) (codes "%!PS-Adobe-") then start else length text.now) }
+    ensures depth { result.depth ≡ 0 }
+{
+    if text[start..].starts_with(b"%!PS-Adobe-") {
+        Marks::new(text, start)
+    } else {
+        Marks::new(text, text.len())
+    }
+}
+
+/// The sections of a job.
+pub fn split(alloc: Global, job: &[u8]) -> Result<Sections, SplitError>
+    requires { length job.now ≤ 268435456 }
+    ensures ok { IfOk result (λ sections. sections ≡ sections_of job.now) }
+    ensures few { OnOk result (page_count (sections_of job.now) ≤ MAX_PAGES) }
+    ensures refused { IfErr result (Refuses job.now) }
+{
+    let start = start_of(job);
+    let end = job.len() - trailing_len(&job[start..]);
+    let mut cutter = Cutter::new(alloc, start);
+    for mark in marks_of_job(&job[..end], start) {
+        cutter.cut(mark)?;
+    }
+    cutter.finish(end)
 }

@@ -1,7 +1,7 @@
 use Rattle.std.proofs.Common.{◌≡◌, ◌+◌, ◌<◌, ◌≤◌, [], length, refl, sym, ap, subst, ◌∙◌, arith, rules}
-use Rattle.dsc_split.specs.declared.split.TheConstants.{MAX_SECTIONS}
+use Rattle.dsc_split.specs.declared.cutter.TheConstants.{MAX_SECTIONS}
 use Rattle.dsc_split.proofs.CutLemmas.{closes}
-use Rattle.dsc_split.proofs.split.Cutter.finish.Goals as goal
+use Rattle.dsc_split.proofs.cutter.Cutter.finish.Goals as goal
 
 pub returns-then-self-gt-MAX_SECTIONS-clause-err :
     goal.returns-then-self-gt-MAX_SECTIONS-clause-err

@@ -2,7 +2,7 @@ use Rattle.std.proofs.Common.{◌≡◌, ◌≢◌, [], true, rules}
 use Rattle.ps_objects.specs.declared.section.SectionKind.TheVariants as kind
 use Rattle.dsc_split.specs.Cuts.{is_part}
 use Rattle.dsc_split.proofs.CutLemmas.{part_else, end_continues_at}
-use Rattle.dsc_split.proofs.split.Cutter.end_part.Goals as goal
+use Rattle.dsc_split.proofs.cutter.Cutter.end_part.Goals as goal
 
 pub returns-in_ok-open-clause-leads : goal.returns-in_ok-open-clause-leads
 returns-in_ok-open-clause-leads c =

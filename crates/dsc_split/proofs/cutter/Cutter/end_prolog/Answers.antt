@@ -1,7 +1,7 @@
 use Rattle.std.proofs.Common.{◌≡◌, rules}
 use Rattle.ps_objects.specs.declared.section.SectionKind.TheVariants as kind
 use Rattle.dsc_split.proofs.CutLemmas.{prolog_continues}
-use Rattle.dsc_split.proofs.split.Cutter.end_prolog.Goals as goal
+use Rattle.dsc_split.proofs.cutter.Cutter.end_prolog.Goals as goal
 
 pub returns-in_ok-open-clause-leads : goal.returns-in_ok-open-clause-leads
 returns-in_ok-open-clause-leads c =
