@@ -47,8 +47,8 @@ pub starts : (job : List ℕ) (cutter : Cutter) (at : ℕ) → at ≡ (if has_he
 starts job cutter at e i n k f =
     let marks = marks_from 0 at (take (end_of job) job) in
     let same : left_of cutter (end_of job) marks ≡ sections_of job =
-      ap (λ x. sections_left x cutter.kind cutter.from (end_of job) marks) n ∙ ap (λ x. sections_left 1 x cutter.from (end_of job) marks) k
-      ∙ ap (λ x. sections_left 1 kind.Prolog x (end_of job) marks) f ∙ all_left job at e
+    ap (λ x. sections_left x cutter.kind cutter.from (end_of job) marks) n ∙ ap (λ x. sections_left 1 x cutter.from (end_of job) marks) k
+    ∙ ap (λ x. sections_left 1 kind.Prolog x (end_of job) marks) f ∙ all_left job at e
     in
     record {
       count = omega (arith, n, ap length same);
@@ -103,8 +103,8 @@ begins_at job cutter at short e i n k f =
     let high : at ≤ length text = ⊎_elim (λ a. omega (arith, within.0)) (λ a. omega arith) place in
     record {
       ordered =
-        let o = ordered_before cutter.from at (length text) (marks_from 0 at text) (omega (arith, f)) (marks_from_ordered 0 at text high) in
-        subst (λ x. IsOrdered cutter.from x (marks_from 0 at text)) len o;
+          let o = ordered_before cutter.from at (length text) (marks_from 0 at text) (omega (arith, f)) (marks_from_ordered 0 at text high) in
+          subst (λ x. IsOrdered cutter.from x (marks_from 0 at text)) len o;
       room = omega (arith, n, within.1, len, marks_from_few 0 at text);
       leads = starts job cutter at e i n k f;
     }
@@ -116,12 +116,12 @@ pub begins : (job text : List ℕ) (cutter : Cutter) (start trailing depth at : 
     → Begins job cutter (length job - trailing) (marks_from depth at text)
 begins job text cutter start trailing depth at short s t x d e i n k f =
     let end_is : length job - trailing ≡ end_of job =
-      ap (λ y. length job - y) (t ∙ ap (suffix_len is_control_d) (take_rest job start) ∙ ap (λ y. suffix_len is_control_d (drop y job)) s)
+    ap (λ y. length job - y) (t ∙ ap (suffix_len is_control_d) (take_rest job start) ∙ ap (λ y. suffix_len is_control_d (drop y job)) s)
     in
     let text_is : text ≡ take (end_of job) job = x ∙ ap (λ y. take y job) end_is in
     let at_is : at ≡ (if has_header job then start_of job else length (take (end_of job) job)) =
-      e ∙ ap (λ y. if starts_with nat_eq (drop start y) (codes "%!PS-Adobe-") then start else length y) text_is
-      ∙ ap (λ y. if starts_with nat_eq (drop y (take (end_of job) job)) (codes "%!PS-Adobe-") then y else length (take (end_of job) job)) s
+    e ∙ ap (λ y. if starts_with nat_eq (drop start y) (codes "%!PS-Adobe-") then start else length y) text_is
+    ∙ ap (λ y. if starts_with nat_eq (drop y (take (end_of job) job)) (codes "%!PS-Adobe-") then y else length (take (end_of job) job)) s
     in
     subst (λ y. Begins job cutter y (marks_from depth at text)) (sym end_is)
     (subst (λ y. Begins job cutter (end_of job) (marks_from y at text)) (sym d)

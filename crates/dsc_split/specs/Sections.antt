@@ -1,6 +1,7 @@
 -- The sections of a job.
-use Rattle.std.specs.Prelude.{ℕ, ◌+◌, ◌-◌, Bool, true, false, ◌==◌, List, [], ◌∷◌, length, take, drop, if◌then◌else◌, count_by, nat_eq, codes}
+use Rattle.std.specs.Prelude.{ℕ, ◌+◌, ◌-◌, Bool, true, false, ◌==◌, List, [], ◌∷◌, ◌++◌, length, take, drop, if◌then◌else◌, count_by, nat_eq, codes}
 use Rattle.std.specs.List.{prefix_len, suffix_len, starts_with}
+use Rattle.std.specs.Fmt.{decimal}
 use Rattle.ps_objects.specs.declared.section.SectionKind.{SectionKind}
 use Rattle.ps_objects.specs.declared.section.SectionKind.TheVariants as kind
 use Rattle.dsc_split.specs.declared.section.Section.{Section}
@@ -74,6 +75,17 @@ sections_of job =
 -- the bytes of a section
 abbrev pub text_of : List ℕ → Section → List ℕ
 text_of job s = take s.len (drop s.from job)
+
+-- the word for a kind, and how a section is written
+abbrev pub kind_word : SectionKind → List ℕ
+kind_word kind.Prolog = codes "prolog"
+kind_word kind.Setup = codes "setup"
+kind_word kind.Page = codes "page"
+kind_word kind.Trailer = codes "trailer"
+
+abbrev pub section_text : Section → List ℕ
+section_text s =
+    decimal s.number ++ codes " " ++ kind_word s.kind ++ codes " " ++ decimal s.from ++ codes " " ++ decimal s.len
 
 -- how many sections are pages
 abbrev pub is_page : Section → Bool

@@ -6,6 +6,8 @@ mod cutter;
 mod line;
 mod mark;
 mod section;
+#[cfg(test)]
+mod tests;
 mod words;
 
 pub use cutter::{MAX_PAGES, SplitError, split};

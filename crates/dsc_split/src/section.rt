@@ -1,8 +1,9 @@
 //! Sections.
 ghost use Rattle.std.specs.Prelude.{◌≡◌, ◌+◌, ◌≤◌, length};
-ghost use Rattle.dsc_split.specs.Sections.{text_of};
+ghost use Rattle.dsc_split.specs.Sections.{kind_word, text_of};
 
 use ps_objects::SectionKind;
+use std::fmt;
 use std::marker::Model;
 
 /// A section of a job: its number, from 1 on, its kind, the place of its first byte, and how many bytes it has.
@@ -22,6 +23,34 @@ impl Section {
     {
         let from = self.from as usize;
         &job[from..from + self.len as usize]
+    }
+}
+
+/// The word for a kind of section.
+fn kind_word(kind: SectionKind) -> &'static str
+    ensures { result.now ≡ kind_word kind }
+{
+    match kind {
+        SectionKind::Prolog => "prolog",
+        SectionKind::Setup => "setup",
+        SectionKind::Page => "page",
+        SectionKind::Trailer => "trailer",
+    }
+}
+
+/// A section is written as its number, its kind, its place and its length, with single spaces.
+impl fmt::Display for Section {
+    ghost use Rattle.std.specs.Prelude.{Some};
+    ghost use Rattle.dsc_split.specs.Sections.{section_text};
+
+    ghost output = { λ s. Some (section_text s) };
+
+    fn fmt<W: fmt::Write>(&self, f: &mut fmt::Formatter<W>) -> fmt::Result {
+        let number = self.number;
+        let kind = kind_word(self.kind);
+        let from = self.from;
+        let len = self.len;
+        write!(f, "{number} {kind} {from} {len}")
     }
 }
 

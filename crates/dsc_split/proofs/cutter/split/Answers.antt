@@ -13,8 +13,8 @@ loop-mark-init c =
     let job = c.args.job.now in
     let end = length job - c.trailing_len.result in
     let first = begins job (take end job) c.new-cutter.result c.start_of-start.result c.trailing_len.result marks.result.depth marks.result.at
-      c.requires c.start_of-start.ensures.value c.trailing_len.ensures.value refl marks.ensures.depth marks.ensures.at
-      c.new-cutter.ensures.sections c.new-cutter.ensures.number c.new-cutter.ensures.kind c.new-cutter.ensures.from
+    c.requires c.start_of-start.ensures.value c.trailing_len.ensures.value refl marks.ensures.depth marks.ensures.at
+    c.new-cutter.ensures.sections c.new-cutter.ensures.number c.new-cutter.ensures.kind c.new-cutter.ensures.from
     in
     let moved = subst (λ text. Begins job c.new-cutter.result end (marks_from marks.result.depth marks.result.at text)) (sym marks.ensures.job) first in
     let begun = subst (λ m. Begins job c.new-cutter.result end (marks_from m.depth m.at m.job.now)) (sym same) moved in
@@ -28,10 +28,13 @@ loop-mark-preserved c =
     let step = c.in-Some.ensures.steps in
     let kept = c.loop-mark.invariant in
     let ordered = subst (λ marks. IsOrdered c.loop-mark.cutter.from end marks) step kept.2 in
-    let leads = subst (λ marks. Leads c.loop-mark.cutter end marks whole) step kept.4 in
-    (tt, tt, ordered_before c.cut.new.self.from (place_of c.in-Some.mark) end later c.in_ok-cut.ensures.from ordered.1,
-     omega (arith, ap length step, c.in_ok-cut.ensures.number, kept.3),
-     c.in_ok-cut.ensures.leads end later whole leads)
+    let leads = subst (λ marks. Leads c.loop-mark.cutter end marks whole) step kept.4 in (
+      tt,
+      tt,
+      ordered_before c.cut.new.self.from (place_of c.in-Some.mark) end later c.in_ok-cut.ensures.from ordered.1,
+      omega (arith, ap length step, c.in_ok-cut.ensures.number, kept.3),
+      c.in_ok-cut.ensures.leads end later whole leads,
+    )
 
 pub returns-clause-few : goal.returns-clause-few
 returns-clause-few c =
