@@ -5,3 +5,6 @@ pub mod MarkLemmas
 pub mod CutLemmas
 pub mod OrderLemmas
 pub mod SectionLemmas
+pub mod PieceLemmas
+pub mod PageLemmas
+pub mod Laws

@@ -19,7 +19,7 @@ line_end_len_pos [] h = h
 line_end_len_pos (_ ∷ []) h = omega arith
 line_end_len_pos (x ∷ y ∷ rest) h = grind arith
 
-length-line_of : (text : List ℕ) → length (line_of text) ≡ position_or_len ends_line text
+pub length-line_of : (text : List ℕ) → length (line_of text) ≡ position_or_len ends_line text
 length-line_of text = length-take-le _ text (prefix_len-le-length _ text)
 
 pub line_len_le : (text : List ℕ) → line_len text ≤ length text

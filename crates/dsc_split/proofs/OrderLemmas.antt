@@ -8,6 +8,8 @@ use Rattle.dsc_split.specs.declared.mark.Mark.{Mark}
 use Rattle.dsc_split.specs.Comments.{comment_of}
 use Rattle.dsc_split.specs.Lines.{line_of, line_len, data_len, reach_of, lines_at}
 use Rattle.dsc_split.specs.Marks.{mark_of, depth_after, marks_of, marks_from}
+use Rattle.dsc_split.specs.declared.mark.Mark.TheVariants.{EndProlog, Page, Trailer}
+use Rattle.dsc_split.specs.Sections.{prolog_end, part_end}
 use Rattle.dsc_split.specs.Cuts.{place_of, IsOrdered}
 use Rattle.dsc_split.proofs.LineLemmas.{line_len_le, line_len_pos}
 
@@ -25,7 +27,7 @@ mark_ordered zero (Some comment.EndDocument) place to from end later h g here fi
 mark_ordered zero (Some comment.BeginData) place to from end later h g here first last = here
 mark_ordered zero (Some comment.BeginBinary) place to from end later h g here first last = here
 
-marks_ordered : (depth place passed from end : ℕ) (text : List ℕ) → end ≡ place + length text → from ≤ place + passed → from ≤ end
+pub marks_ordered : (depth place passed from end : ℕ) (text : List ℕ) → end ≡ place + length text → from ≤ place + passed → from ≤ end
     → IsOrdered from end (marks_of depth (lines_at place passed text))
 unfolding marks_of lines_at
 marks_ordered depth place passed from end [] e h g = g
@@ -67,3 +69,20 @@ marks_from_few depth at job = omega (arith, marks_few depth at 0 (drop at job), 
 pub ordered_before : (earlier from end : ℕ) (marks : List Mark) → earlier ≤ from → IsOrdered from end marks → IsOrdered earlier end marks
 ordered_before earlier from end [] h o = omega arith
 ordered_before earlier from end (mark ∷ marks) h o = (omega (arith, o.0), o.1)
+
+-- what comes before marks in order stands before the end, and before the next part
+pub ordered_end : (from end : ℕ) (marks : List Mark) → IsOrdered from end marks → from ≤ end
+ordered_end from end [] o = o
+ordered_end from end (mark ∷ marks) o = omega (arith, o.0, ordered_end (place_of mark) end marks o.1)
+
+pub part_bounds : (from end : ℕ) (marks : List Mark) → IsOrdered from end marks → (from ≤ part_end end marks) × (part_end end marks ≤ end)
+part_bounds from end [] o = (o, omega arith)
+part_bounds from end (EndProlog to ∷ marks) o = let later = part_bounds to end marks o.1 in (omega (arith, o.0, later.0), later.1)
+part_bounds from end (Page at ∷ marks) o = (o.0, ordered_end at end marks o.1)
+part_bounds from end (Trailer at ∷ marks) o = (o.0, ordered_end at end marks o.1)
+
+pub prolog_bounds : (start end : ℕ) (marks : List Mark) → IsOrdered start end marks → (start ≤ prolog_end end marks) × (prolog_end end marks ≤ part_end end marks)
+prolog_bounds start end [] o = (o, omega arith)
+prolog_bounds start end (EndProlog to ∷ marks) o = (o.0, (part_bounds to end marks o.1).0)
+prolog_bounds start end (Page at ∷ marks) o = (o.0, omega arith)
+prolog_bounds start end (Trailer at ∷ marks) o = (o.0, omega arith)

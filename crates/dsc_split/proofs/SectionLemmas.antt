@@ -19,12 +19,12 @@ use Rattle.dsc_split.specs.Cuts.{sections_left, left_of, Leads, IsOrdered, IsToo
 use Rattle.dsc_split.proofs.MarkLemmas.{marks_end}
 use Rattle.dsc_split.proofs.OrderLemmas.{marks_from_ordered, marks_from_few, ordered_before}
 
-headed : (job : List ℕ) → has_header job ≡ true
+pub headed : (job : List ℕ) → has_header job ≡ true
     → sections_of job ≡ sections_at (start_of job) (end_of job) (marks_from 0 (start_of job) (take (end_of job) job))
 unfolding sections_of
 headed job t = cond-true _ _ _ t
 
-headless : (job : List ℕ) → has_header job ≡ false
+pub headless : (job : List ℕ) → has_header job ≡ false
     → sections_of job ≡ section 1 kind.Prolog (start_of job) (end_of job) ∷ section 2 kind.Setup (end_of job) (end_of job) ∷ section 3 kind.Trailer (end_of job) (end_of job) ∷ []
 unfolding sections_of
 headless job f = cond-false _ _ _ f
@@ -55,7 +55,7 @@ starts job cutter at e i n k f =
       list = λ _. ap (λ x. x ++ left_of cutter (end_of job) marks) i ∙ same;
     }
 
-page_count-cons : (s : Section) (sections : List Section) → page_count (s ∷ sections) ≡ cond (is_page s) 1 0 + page_count sections
+pub page_count-cons : (s : Section) (sections : List Section) → page_count (s ∷ sections) ≡ cond (is_page s) 1 0 + page_count sections
 page_count-cons s sections = sum_by-cons (λ x. cond (is_page x) 1 0) s sections
 
 pages_length : (number end : ℕ) (marks : List Mark) → length (pages_and_trailer number end marks) ≡ page_count (pages_and_trailer number end marks) + 1
@@ -86,7 +86,7 @@ pub record Begins (job : List ℕ) (cutter : Cutter) (end : ℕ) (marks : List M
   pub room : cutter.number + 2 * length marks ≤ 1000000000
   pub leads : Leads cutter end marks (sections_of job)
 
-ends_within : (job : List ℕ) → (start_of job ≤ end_of job) × (end_of job ≤ length job)
+pub ends_within : (job : List ℕ) → (start_of job ≤ end_of job) × (end_of job ≤ length job)
 ends_within job =
     let behind = drop (start_of job) job in
     (omega (arith, prefix_len-le-length is_control_d job, suffix_len-le-length is_control_d behind, length-drop (start_of job) job), omega arith)

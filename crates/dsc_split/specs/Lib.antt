@@ -3,3 +3,4 @@ pub mod Comments
 pub mod Marks
 pub mod Sections
 pub mod Cuts
+pub mod Law

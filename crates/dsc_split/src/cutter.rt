@@ -6,6 +6,7 @@ ghost use Rattle.dsc_split.specs.declared.mark.Mark.{Mark};
 ghost use Rattle.dsc_split.specs.declared.section.Section.{Section};
 ghost use Rattle.dsc_split.specs.Sections.{is_control_d, start_of, prolog_end, section, sections_of, page_count};
 ghost use Rattle.dsc_split.specs.Cuts.{place_of, after_prolog, Continues, Leads, IsTooMany, Refuses};
+ghost use Rattle.dsc_split.specs.Law.{StandsWithin};
 
 use crate::mark::{Mark, Marks};
 use crate::section::{Section, Sections};
@@ -220,10 +221,12 @@ fn marks_of_job(text: &[u8], start: usize) -> Marks<'_>
 }
 
 /// The sections of a job.
+#[tactic(auto, using(crate::proofs::Laws::split_within))]
 pub fn split(alloc: Global, job: &[u8]) -> Result<Sections, SplitError>
     requires { length job.now ≤ 268435456 }
     ensures ok { IfOk result (λ sections. sections ≡ sections_of job.now) }
     ensures few { OnOk result (page_count (sections_of job.now) ≤ MAX_PAGES) }
+    ensures within { IfOk result (StandsWithin job.now) }
     ensures refused { IfErr result (Refuses job.now) }
 {
     let start = start_of(job);

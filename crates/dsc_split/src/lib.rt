@@ -3,6 +3,7 @@
 
 mod comment;
 mod cutter;
+mod law;
 mod line;
 mod mark;
 mod section;
@@ -11,5 +12,6 @@ mod tests;
 mod words;
 
 pub use cutter::{MAX_PAGES, SplitError, split};
+pub use law::sections_law;
 pub use ps_objects::{NoMemory, SectionKind};
 pub use section::{Section, Sections};
