@@ -1,5 +1,5 @@
 -- How the sections of a job come of those that are closed.
-use Rattle.std.proofs.Common.{◌≡◌, ℕ, ◌+◌, ◌-◌, ◌<◌, ◌≤◌, Bool, true, false, List, [], ◌∷◌, ◌++◌, length, refl, sym, ap, subst, ◌∙◌, arith, append_assoc}
+use Rattle.std.proofs.Common.{◌≡◌, ℕ, ◌+◌, ◌≤◌, true, List, [], ◌∷◌, ◌++◌, length, refl, sym, ap, ◌∙◌, arith, append_assoc}
 use Rattle.std.specs.Prelude.{if◌then◌else◌, nat_le}
 use Rattle.std.proofs.lemmas.Bool.{cond-true, le-leb, false≢true}
 use Rattle.ps_objects.specs.declared.section.SectionKind.{SectionKind}
@@ -9,7 +9,7 @@ use Rattle.dsc_split.specs.declared.mark.Mark.{Mark}
 use Rattle.dsc_split.specs.declared.mark.Mark.TheVariants.{EndProlog, Page, Trailer}
 use Rattle.dsc_split.specs.declared.cutter.Cutter.{Cutter}
 use Rattle.dsc_split.specs.declared.cutter.TheConstants.{MAX_SECTIONS}
-use Rattle.dsc_split.specs.Sections.{section, prolog_end, part_end, pages_and_trailer}
+use Rattle.dsc_split.specs.Sections.{section, prolog_end, pages_and_trailer}
 use Rattle.dsc_split.specs.Cuts.{is_part, after_prolog, place_of, sections_left, left_of, Continues, Leads}
 
 -- a section is closed, and another opened

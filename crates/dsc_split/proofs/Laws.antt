@@ -1,11 +1,10 @@
 -- The laws of the sections of a job.
-use Rattle.std.proofs.Common.{◌≡◌, ℕ, zero, suc, ◌+◌, ◌-◌, ◌<◌, ◌≤◌, Bool, true, false, List, [], ◌∷◌, ◌++◌, length, take, drop, refl, sym, ap, subst, ◌∙◌, arith, ⊎_elim, length-drop}
-use Rattle.std.specs.Prelude.{map, All, replicate, nat_eq, codes, cond, Result, Ok, Err, IfOk}
+use Rattle.std.proofs.Common.{◌≡◌, ℕ, zero, suc, ◌+◌, ◌-◌, ◌<◌, ◌≤◌, true, List, [], ◌∷◌, ◌++◌, length, take, drop, refl, sym, ap, subst, ◌∙◌, arith, ⊎_elim}
+use Rattle.std.specs.Prelude.{map, All, replicate, nat_eq, Result, Ok, Err, IfOk}
 use Rattle.std.specs.List.{slice_index_or, concat, starts_with}
 use Rattle.std.proofs.lemmas.Bool.{cases_Bool, false≢true}
 use Rattle.std.proofs.lemmas.List.{append-nil, length-take-le, drop-take}
 use Rattle.std.proofs.lemmas.List.Elements.{All-cons}
-use Rattle.ps_objects.specs.declared.section.SectionKind.{SectionKind}
 use Rattle.ps_objects.specs.declared.section.SectionKind.TheVariants as kind
 use Rattle.dsc_split.specs.declared.section.Section.{Section}
 use Rattle.dsc_split.specs.declared.mark.Mark.{Mark}
@@ -13,7 +12,7 @@ use Rattle.dsc_split.specs.declared.mark.Mark.TheVariants.{EndProlog, Page, Trai
 use Rattle.dsc_split.specs.declared.cutter.SplitError.{SplitError}
 use Rattle.dsc_split.specs.Marks.{marks_from}
 use Rattle.dsc_split.specs.Sections.{start_of, end_of, body_of, has_header, section, prolog_end, part_end, pages_and_trailer, sections_at, sections_of, text_of, is_page, page_count}
-use Rattle.dsc_split.specs.Cuts.{place_of, IsOrdered}
+use Rattle.dsc_split.specs.Cuts.{IsOrdered}
 use Rattle.dsc_split.specs.Law.{IsWhole, IsNumbered, HasItsKinds, IsPrologAlone, BeginsPages, StandsWithin}
 use Rattle.dsc_split.proofs.OrderLemmas.{marks_from_ordered, ordered_end, part_bounds, prolog_bounds}
 use Rattle.dsc_split.proofs.PieceLemmas.{piece, pieces_joined, piece_none, job_joined}

@@ -1,3 +1,4 @@
+pub mod CommentLemmas
 pub mod Searches
 pub mod WordLemmas
 pub mod LineLemmas

@@ -1,13 +1,13 @@
 -- How long lines are, and how the lines of a text follow one another.
-use Rattle.std.proofs.Common.{◌≡◌, ◌⊎◌, ℕ, zero, suc, ◌+◌, ◌-◌, ◌<◌, ◌≤◌, Bool, true, false, List, [], ◌∷◌, length, take, drop, min, refl, sym, ap, subst, ◌∙◌, arith, inl, inr, ⊎_elim, length-drop}
-use Rattle.std.specs.List.{prefix_len, position_or_len}
+use Rattle.std.proofs.Common.{◌≡◌, ◌⊎◌, ℕ, zero, suc, ◌+◌, ◌-◌, ◌<◌, ◌≤◌, List, [], ◌∷◌, length, drop, min, refl, sym, ap, ◌∙◌, arith, inl, inr, ⊎_elim, length-drop}
+use Rattle.std.specs.List.{position_or_len}
 use Rattle.std.specs.Prelude.{not}
 use Rattle.std.proofs.lemmas.Bool.{cases_lt}
 use Rattle.std.proofs.lemmas.List.{drop-drop, length-take-le, drop_all}
 use Rattle.std.proofs.lemmas.List.Sums.{prefix_len-le-length}
 use Rattle.std.proofs.Math.Seq.{drop-nil}
 use Rattle.dsc_split.specs.Comments.{comment_of}
-use Rattle.dsc_split.specs.Lines.{ends_line, line_of, line_end_len, line_len, lines_len, data_len, reach_of, Line, lines_at}
+use Rattle.dsc_split.specs.Lines.{ends_line, line_of, line_end_len, line_len, lines_len, data_len, reach_of, lines_at}
 
 pub line_end_len_le : (text : List ℕ) → line_end_len text ≤ length text
 line_end_len_le [] = omega arith

@@ -1,12 +1,12 @@
 -- The marks of a job stand in order, and are no more than its bytes.
-use Rattle.std.proofs.Common.{◌≡◌, ℕ, zero, suc, ◌+◌, ◌-◌, ◌<◌, ◌≤◌, List, [], ◌∷◌, ◌++◌, length, drop, refl, sym, ap, subst, ◌∙◌, arith, length-append, length-drop}
+use Rattle.std.proofs.Common.{◌≡◌, ℕ, zero, suc, ◌+◌, ◌-◌, ◌<◌, ◌≤◌, List, [], ◌∷◌, ◌++◌, length, drop, arith, length-append, length-drop}
 use Rattle.std.specs.Prelude.{Option, Some, None}
 use Rattle.std.specs.Option.{option_to_list}
 use Rattle.dsc_split.specs.declared.comment.Comment.{Comment}
 use Rattle.dsc_split.specs.declared.comment.Comment.TheVariants as comment
 use Rattle.dsc_split.specs.declared.mark.Mark.{Mark}
 use Rattle.dsc_split.specs.Comments.{comment_of}
-use Rattle.dsc_split.specs.Lines.{line_of, line_len, data_len, reach_of, lines_at}
+use Rattle.dsc_split.specs.Lines.{line_of, line_len, reach_of, lines_at}
 use Rattle.dsc_split.specs.Marks.{mark_of, depth_after, marks_of, marks_from}
 use Rattle.dsc_split.specs.declared.mark.Mark.TheVariants.{EndProlog, Page, Trailer}
 use Rattle.dsc_split.specs.Sections.{prolog_end, part_end}

@@ -1,10 +1,9 @@
 -- Each page stands where its `%%Page:` line begins.
-use Rattle.std.proofs.Common.{◌≡◌, ℕ, zero, suc, ◌+◌, ◌-◌, ◌<◌, ◌≤◌, Bool, true, false, List, [], ◌∷◌, ◌++◌, length, take, drop, min, refl, sym, ap, subst, ◌∙◌, arith, length-drop, length-take, append_assoc, ⊎_elim}
+use Rattle.std.proofs.Common.{◌≡◌, ℕ, zero, suc, ◌+◌, ◌-◌, ◌<◌, ◌≤◌, Bool, true, false, List, [], ◌∷◌, ◌++◌, length, take, drop, refl, sym, ap, ◌∙◌, arith, length-drop, length-take, append_assoc}
 use Rattle.std.specs.Prelude.{Option, Some, None, nat_eq, codes, ◌&&◌, if◌then◌else◌}
 use Rattle.std.specs.Option.{option_to_list}
-use Rattle.std.specs.List.{starts_with, prefix_len, position_or_len}
+use Rattle.std.specs.List.{starts_with}
 use Rattle.std.proofs.lemmas.List.{take-take, take-append-drop, drop-take, drop-drop}
-use Rattle.std.proofs.lemmas.List.Sums.{prefix_len-le-length}
 use Rattle.std.proofs.lemmas.Bool.Decides.{Decides-eqb}
 use Rattle.std.proofs.lemmas.Slice.Eq.{starts_is}
 use Rattle.dsc_split.specs.declared.comment.Comment.{Comment}
@@ -15,9 +14,8 @@ use Rattle.dsc_split.specs.Comments.{is_comment, comment_of}
 use Rattle.dsc_split.specs.Lines.{line_of, line_len, reach_of, lines_at}
 use Rattle.dsc_split.specs.Marks.{mark_of, depth_after, marks_of, marks_from}
 use Rattle.dsc_split.specs.Sections.{part_end}
-use Rattle.dsc_split.specs.Cuts.{IsOrdered}
 use Rattle.dsc_split.proofs.LineLemmas.{line_len_le, line_len_pos, length-line_of}
-use Rattle.dsc_split.proofs.OrderLemmas.{marks_ordered, ordered_end, part_bounds}
+use Rattle.dsc_split.proofs.OrderLemmas.{marks_ordered, part_bounds}
 use Rattle.dsc_split.proofs.PieceLemmas.{piece}
 
 abbrev pub page_name : List ℕ

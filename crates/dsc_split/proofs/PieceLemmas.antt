@@ -1,10 +1,10 @@
 -- The pieces of a job, joined, and the Control-D bytes at its ends.
-use Rattle.std.proofs.Common.{◌≡◌, ℕ, zero, suc, ◌+◌, ◌-◌, ◌<◌, ◌≤◌, Bool, true, false, List, [], ◌∷◌, ◌++◌, length, take, drop, refl, sym, ap, subst, ◌∙◌, arith, ⊎_elim, length-drop, append_assoc}
+use Rattle.std.proofs.Common.{◌≡◌, ℕ, zero, suc, ◌+◌, ◌-◌, ◌≤◌, List, [], ◌∷◌, ◌++◌, length, take, drop, refl, sym, ap, ◌∙◌, arith, ⊎_elim, length-drop, append_assoc}
 use Rattle.std.specs.Prelude.{reverse, replicate}
 use Rattle.std.specs.List.{prefix_len, suffix_len}
 use Rattle.std.proofs.Math.Seq.{take-add}
 use Rattle.std.proofs.lemmas.Bool.{cases_Bool, eqb-true}
-use Rattle.std.proofs.lemmas.List.{drop-drop, reverse-append, reverse-reverse, length-reverse, take-append-drop, take_at, take_all, replicate_more}
+use Rattle.std.proofs.lemmas.List.{drop-drop, reverse-append, reverse-reverse, length-reverse, take-append-drop, take_at, replicate_more}
 use Rattle.std.proofs.lemmas.List.Sums.{prefix_len-le-length, suffix_len-le-length}
 use Rattle.dsc_split.specs.Sections.{is_control_d, start_of, end_of}
 

@@ -1,5 +1,5 @@
 -- How cutting a job begins, and how many sections and pages there are.
-use Rattle.std.proofs.Common.{◌≡◌, ◌⊎◌, ℕ, ◌+◌, ◌-◌, ◌*◌, ◌<◌, ◌≤◌, Bool, true, false, List, [], ◌∷◌, ◌++◌, length, take, drop, refl, sym, ap, subst, ◌∙◌, arith, ⊎_elim, length-drop}
+use Rattle.std.proofs.Common.{◌≡◌, ◌⊎◌, ℕ, ◌+◌, ◌-◌, ◌*◌, ◌≤◌, true, false, List, [], ◌∷◌, ◌++◌, length, take, drop, refl, sym, ap, subst, ◌∙◌, arith, ⊎_elim, length-drop}
 use Rattle.std.specs.Prelude.{if◌then◌else◌, cond, Result, Ok, Err, IfOk, IfErr, OnOk, nat_eq, codes}
 use Rattle.std.specs.List.{suffix_len, starts_with}
 use Rattle.std.proofs.lemmas.Bool.{cases_Bool, cases_cond, cond-true, cond-false}
@@ -14,7 +14,7 @@ use Rattle.dsc_split.specs.declared.cutter.TheConstants.{MAX_SECTIONS, MAX_PAGES
 use Rattle.dsc_split.specs.declared.cutter.SplitError.{SplitError}
 use Rattle.dsc_split.specs.declared.cutter.SplitError.TheVariants.{TooManyPages, NoMemory}
 use Rattle.dsc_split.specs.Marks.{marks_from}
-use Rattle.dsc_split.specs.Sections.{is_control_d, start_of, end_of, body_of, has_header, section, prolog_end, sections_at, part_end, pages_and_trailer, sections_of, is_page, page_count}
+use Rattle.dsc_split.specs.Sections.{is_control_d, start_of, end_of, has_header, section, prolog_end, sections_at, part_end, pages_and_trailer, sections_of, is_page, page_count}
 use Rattle.dsc_split.specs.Cuts.{sections_left, left_of, Leads, IsOrdered, IsTooMany, Refuses}
 use Rattle.dsc_split.proofs.MarkLemmas.{marks_end}
 use Rattle.dsc_split.proofs.OrderLemmas.{marks_from_ordered, marks_from_few, ordered_before}

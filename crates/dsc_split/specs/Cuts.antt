@@ -1,5 +1,5 @@
 -- How a job is cut while its marks are read.
-use Rattle.std.specs.Prelude.{◌≡◌, ℕ, ◌+◌, ◌-◌, ◌<◌, ◌≤◌, Bool, true, false, List, [], ◌∷◌, ◌++◌, length, if◌then◌else◌, nat_le}
+use Rattle.std.specs.Prelude.{◌≡◌, ℕ, ◌+◌, ◌<◌, ◌≤◌, Bool, true, false, List, [], ◌∷◌, ◌++◌, length}
 use Rattle.ps_objects.specs.declared.section.SectionKind.{SectionKind}
 use Rattle.ps_objects.specs.declared.section.SectionKind.TheVariants as kind
 use Rattle.dsc_split.specs.declared.section.Section.{Section}

@@ -1,5 +1,5 @@
 -- The lines of a job, without the data that some of them count.
-use Rattle.std.specs.Prelude.{ℕ, zero, suc, ◌+◌, ◌-◌, Bool, ◌&&◌, ◌||◌, ◌==◌, List, [], ◌∷◌, length, drop, if◌then◌else◌, Option, Some, None, codes}
+use Rattle.std.specs.Prelude.{ℕ, zero, suc, ◌+◌, ◌-◌, Bool, ◌&&◌, ◌||◌, ◌==◌, List, [], ◌∷◌, length, drop, if◌then◌else◌, Option, Some, codes}
 use Rattle.std.specs.List.{before_first}
 use Rattle.dsc_split.specs.declared.comment.Comment.{Comment}
 use Rattle.dsc_split.specs.declared.comment.Comment.TheVariants.{BeginData, BeginBinary}

@@ -1,5 +1,5 @@
 -- The lines that cut a job into sections: those outside of inner documents that are one of three comments.
-use Rattle.std.specs.Prelude.{ℕ, zero, suc, ◌+◌, ◌-◌, List, [], ◌∷◌, ◌++◌, drop, Option, Some, None}
+use Rattle.std.specs.Prelude.{ℕ, zero, ◌+◌, ◌-◌, List, [], ◌∷◌, ◌++◌, drop, Option, Some, None}
 use Rattle.std.specs.Option.{option_to_list}
 use Rattle.dsc_split.specs.declared.comment.Comment.{Comment}
 use Rattle.dsc_split.specs.declared.comment.Comment.TheVariants as comment

@@ -35,9 +35,13 @@ fn is_comment(name: &[u8], line: &[u8]) -> bool
 }
 
 /// The comment that a line is, given without its line end.
+#[tactic(auto, using(crate::proofs::CommentLemmas::other_line))]
 pub(crate) fn comment_of(line: &[u8]) -> Option<Comment>
     ensures { result ≡ comment_of line.now }
 {
+    if !line.starts_with(b"%") {
+        return None;
+    }
     if is_comment(b"%%EndProlog", line) {
         Some(Comment::EndProlog)
     } else if is_comment(b"%%Page:", line) {

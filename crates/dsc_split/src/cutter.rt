@@ -16,6 +16,7 @@ use std::alloc::Global;
 /// The most pages that a job may have.
 pub const MAX_PAGES: u32 = 100_000;
 
+/// The prolog, the setup, the trailer and as many pages as there may be.
 const MAX_SECTIONS: u32 = 100_003;
 
 const CONTROL_D: u8 = 4;

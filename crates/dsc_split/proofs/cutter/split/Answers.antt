@@ -1,4 +1,4 @@
-use Rattle.std.proofs.Common.{◌≡◌, ◌+◌, ◌-◌, ◌∷◌, [], List, ℕ, length, take, refl, sym, ap, subst, ◌∙◌, arith}
+use Rattle.std.proofs.Common.{◌≡◌, ◌-◌, length, take, refl, sym, ap, subst, arith}
 use Rattle.dsc_split.specs.Sections.{sections_of}
 use Rattle.dsc_split.specs.Cuts.{place_of, IsOrdered, Leads}
 use Rattle.dsc_split.specs.Marks.{marks_from}

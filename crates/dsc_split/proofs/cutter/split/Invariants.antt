@@ -1,4 +1,4 @@
-use Rattle.std.proofs.Common.{◌+◌, ◌*◌, ◌≤◌, ℕ, List, length}
+use Rattle.std.proofs.Common.{◌+◌, ◌*◌, ◌≤◌, List, length}
 use Rattle.dsc_split.specs.declared.mark.Mark.{Mark}
 use Rattle.dsc_split.specs.declared.mark.Marks.{Marks}
 use Rattle.dsc_split.specs.Marks.{marks_from}

@@ -1,7 +1,7 @@
 use Rattle.std.proofs.Common.{◌≡◌, ◌≢◌, ◌∷◌, true, rules, sym, ap, subst, ◌∙◌}
 use Rattle.ps_objects.specs.declared.section.SectionKind.TheVariants as kind
 use Rattle.dsc_split.specs.declared.mark.Mark.TheVariants.{EndProlog, Page, Trailer}
-use Rattle.dsc_split.specs.Cuts.{is_part, after_prolog, Leads}
+use Rattle.dsc_split.specs.Cuts.{is_part, Leads}
 use Rattle.dsc_split.proofs.CutLemmas.{prolog_place, part_after, leads_same, trailer_stays, page_continues_at, trailer_continues_at, part_stays_at}
 use Rattle.dsc_split.proofs.cutter.Cutter.cut.Goals as goal
 

@@ -1,4 +1,4 @@
-use Rattle.std.proofs.Common.{◌≡◌, ◌+◌, ◌<◌, ◌≤◌, [], length, refl, sym, ap, subst, ◌∙◌, arith, rules}
+use Rattle.std.proofs.Common.{◌≤◌, [], refl, ◌∙◌, arith}
 use Rattle.dsc_split.specs.declared.cutter.TheConstants.{MAX_SECTIONS}
 use Rattle.dsc_split.proofs.CutLemmas.{closes}
 use Rattle.dsc_split.proofs.cutter.Cutter.finish.Goals as goal

@@ -1,4 +1,4 @@
-use Rattle.std.proofs.Common.{◌≡◌, ◌<◌, length, take, drop, sym, arith, ap, ◌∙◌, rules, tests}
+use Rattle.std.proofs.Common.{◌≡◌, ◌<◌, length, take, drop, arith, ap, ◌∙◌, rules, tests}
 use Rattle.std.proofs.lemmas.Grind.{common_steps}
 use Rattle.dsc_split.proofs.WordLemmas.{word_taken, no_word}
 use Rattle.dsc_split.proofs.words.WordsIterator.next.Goals as goal
