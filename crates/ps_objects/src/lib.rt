@@ -4,8 +4,10 @@
 mod error_name;
 mod name;
 mod section;
+mod text;
 
 pub use error_name::ErrorName;
 pub use name::Name;
 pub use ps_shapes::{Matrix, NoMemory, Real};
 pub use section::SectionKind;
+pub use text::Text;
