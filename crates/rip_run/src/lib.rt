@@ -3,4 +3,13 @@
 
 mod operands;
 mod operator;
+mod plain;
+mod reading;
+mod section;
+mod status;
+mod texts;
+mod word;
 
+pub use section::{Ending, Run, interpret};
+pub use status::Status;
+pub use word::{Command, Word, command_of};

@@ -1,5 +1,5 @@
 //! The operand stack of whole numbers.
-ghost use Rattle.std.specs.Prelude.{◌≡◌, ◌≤◌, [], ◌∷◌, length, drop, slice_get, OnOk, IfSome, IfNone, MatchOption, option_copied};
+ghost use Rattle.std.specs.Prelude.{◌≡◌, [], ◌∷◌, OnOk, MatchOption};
 
 use ps_objects::NoMemory;
 use std::alloc::Global;
@@ -25,18 +25,6 @@ impl Operands {
     {
         Operands {
             numbers: Vec::new(alloc),
-        }
-    }
-
-    /// The number that is `depth` below the newest.
-    pub(crate) fn get(&self, depth: usize) -> Option<i32>
-        ensures { result ≡ slice_get self.now depth }
-    {
-        let len = self.numbers.len();
-        if depth < len {
-            Some(self.numbers[len - 1 - depth])
-        } else {
-            None
         }
     }
 
