@@ -1,0 +1,4 @@
+pub mod BlankLemmas
+pub mod NumberLemmas
+pub mod PlainLemmas
+pub mod TokenLemmas

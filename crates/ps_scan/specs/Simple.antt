@@ -1,0 +1,40 @@
+-- Texts of integers and names alone.
+use Rattle.std.specs.Prelude.{◌≡◌, ℕ, Bool, true, false, not, ◌&&◌, ◌||◌, ◌==◌, nat_eq, nat_le, is_some, List, [], ◌∷◌, length, drop, codes, if◌then◌else◌}
+use Rattle.std.specs.List.{list_all, list_any, slice_split, starts_with}
+use Rattle.ps_scan.specs.Characters.{is_line_end, is_special, is_delimiter}
+use Rattle.ps_scan.specs.Numbers.{is_integer, integer_value, is_decimal, is_radix}
+use Rattle.ps_scan.specs.declared.tokens.Scan.{Scan}
+use Rattle.ps_scan.specs.declared.tokens.Scan.TheVariants as scan
+
+-- the text with each byte of a comment made a space, where it begins in a comment, or does not
+unfoldable pub uncommented : Bool → List ℕ → List ℕ
+uncommented in_comment [] = []
+uncommented in_comment (b ∷ bs) =
+    if is_line_end b then b ∷ uncommented false bs
+    else (if in_comment || b == 37 then 32 ∷ uncommented true bs
+    else b ∷ uncommented false bs)
+
+-- of the special characters ) and } alone
+abbrev pub is_plain_byte : ℕ → Bool
+is_plain_byte b = not (is_special b) || b == 41 || b == 125
+
+-- an integer within its range, or a name of at most 127 bytes, without the byte that ends a job
+unfoldable pub is_plain_row : List ℕ → Bool
+is_plain_row row =
+    not (list_any (λ b. b == 4) row) && nat_le (length row) 127
+    && (if is_integer row then is_some (integer_value row) else not (is_decimal row || is_radix row))
+
+-- outside comments there are plain bytes and plain rows alone
+unfoldable pub is_plain : List ℕ → Bool
+is_plain text =
+    list_all is_plain_byte (uncommented false text) && list_all is_plain_row (slice_split is_delimiter (uncommented false text))
+
+-- a plain text that does not begin as one with document structure
+unfoldable pub is_simple : List ℕ → Bool
+is_simple text = not (starts_with nat_eq text (codes "%!PS-Adobe-")) && is_plain text
+
+-- what follows the token or the error is plain
+abbrev pub LeavesPlain : List ℕ → Scan → Type 0
+LeavesPlain text (scan.Token _ next) = is_plain (drop next text) ≡ true
+LeavesPlain text (scan.Bad _ next) = is_plain (drop next text) ≡ true
+LeavesPlain text scan.End = Unit {0}

@@ -1,0 +1,10 @@
+//! Tokens: what the bytes of a program spell.
+#![tactic(auto)]
+
+mod characters;
+mod numbers;
+mod simple_texts;
+mod tokens;
+
+pub use simple_texts::simple;
+pub use tokens::{Scan, Token, next};
