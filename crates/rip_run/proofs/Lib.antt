@@ -1,3 +1,4 @@
+mod Answering
 mod Giving
 mod Pieces
 mod Tokens

@@ -1,9 +1,9 @@
 -- The ways through the body of a section's loop: what is left gives what the whole gives.
 use Rattle.std.proofs.Common.{◌≡◌, ℕ, suc, ◌+◌, ◌-◌, ◌≤◌, ℤ, List, [], ◌++◌, length, Option, Some, None, refl, sym, ap, ◌∙◌, append_assoc, append-nil, arith}
 use Rattle.ps_scan.specs.Token.{token_at}
-use Rattle.ps_scan.specs.declared.Token.{Token}
-use Rattle.ps_scan.specs.declared.Scan.{Scan}
-use Rattle.ps_scan.specs.declared.Scan.TheVariants as scan
+use Rattle.ps_scan.specs.declared.tokens.Token.{Token}
+use Rattle.ps_scan.specs.declared.tokens.Scan.{Scan}
+use Rattle.ps_scan.specs.declared.tokens.Scan.TheVariants as scan
 use Rattle.ps_objects.specs.declared.error_name.ErrorName.{ErrorName}
 use Rattle.rip_run.specs.Section.{after_step, execute, followed, run_of, says, step_of, tokens_from, Steps}
 use Rattle.rip_run.specs.declared.section.Ending.{Ending}

@@ -52,9 +52,13 @@ result_of_run run = record { pages = []; back = line_ended run.said ++ report_of
 abbrev pub refused : List ℕ → Status → JobResult
 refused line answer = record { pages = []; back = line; status = answer }
 
+-- the result of a job under `plain`
+abbrev pub plain_result : List ℕ → JobResult
+plain_result job = if is_not_yet job then refused not_yet_line status.NotYet else result_of_run (run_of job)
+
 abbrev pub result_of_command : Option Command → List ℕ → JobResult
 result_of_command None job = refused usage_line status.Usage
-result_of_command (Some Plain) job = if is_not_yet job then refused not_yet_line status.NotYet else result_of_run (run_of job)
+result_of_command (Some Plain) job = plain_result job
 
 -- the result of words, a moment and a job
 abbrev pub job_result : List (List ℕ) → ℕ → List ℕ → JobResult

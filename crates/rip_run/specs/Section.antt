@@ -4,10 +4,10 @@ use Rattle.std.specs.Fmt.{signed_decimal}
 use Rattle.ps_objects.specs.declared.error_name.ErrorName.{ErrorName}
 use Rattle.ps_objects.specs.declared.error_name.ErrorName.TheVariants.{SyntaxError, Undefined}
 use Rattle.ps_scan.specs.Token.{token_at}
-use Rattle.ps_scan.specs.declared.Token.{Token}
-use Rattle.ps_scan.specs.declared.Token.TheVariants as token
-use Rattle.ps_scan.specs.declared.Scan.{Scan}
-use Rattle.ps_scan.specs.declared.Scan.TheVariants as scan
+use Rattle.ps_scan.specs.declared.tokens.Token.{Token}
+use Rattle.ps_scan.specs.declared.tokens.Token.TheVariants as token
+use Rattle.ps_scan.specs.declared.tokens.Scan.{Scan}
+use Rattle.ps_scan.specs.declared.tokens.Scan.TheVariants as scan
 use Rattle.rip_run.specs.Operators.{operator_named, effect_of, Outcome}
 use Rattle.rip_run.specs.declared.operator.Operator.{Operator}
 use Rattle.rip_run.specs.declared.operator.Effect.{Effect}

@@ -32,6 +32,13 @@ abbrev pub IsRunOrWanting : Status → Type 0
 IsRunOrWanting status.NoMemory = Unit {0}
 IsRunOrWanting s = IsRun s
 
+-- the words are refused, or a sink failed, or memory ran out
+abbrev pub IsRefusal : Status → Type 0
+IsRefusal status.Usage = Unit {0}
+IsRefusal status.WriteFault = Unit {0}
+IsRefusal status.NoMemory = Unit {0}
+IsRefusal _ = ⊥
+
 -- what a sink got of the defined bytes: nothing where the source failed, some front of them where a sink failed
 -- or memory ran out, else all
 abbrev pub Writes : Status → List ℕ → Option (List ℕ) → Option (List ℕ) → Type 0

@@ -1,6 +1,7 @@
 //! The top calls: the words of a command, the reading of a job, and what is written for it.
 #![tactic(auto)]
 
+mod call;
 mod operands;
 mod operator;
 mod plain;
@@ -10,6 +11,7 @@ mod status;
 mod texts;
 mod word;
 
+pub use call::rip_plain;
 pub use section::{Ending, Run, interpret};
 pub use status::Status;
 pub use word::{Command, Word, command_of};

@@ -1,8 +1,8 @@
 //! The run of a section of whole numbers.
 ghost use Rattle.std.specs.Prelude.{◌≡◌, ◌++◌, IfOk, OnOk, true};
-ghost use Rattle.ps_scan.specs.Simple.{is_simple};
+ghost use Rattle.ps_scan.specs.Simple.{is_plain};
 ghost use Rattle.rip_run.specs.Section.{number_line, run_of, step_of, Steps};
-ghost use Rattle.ps_scan.specs.declared.Token.TheVariants.{Exec};
+ghost use Rattle.ps_scan.specs.declared.tokens.Token.TheVariants.{Exec};
 ghost use Rattle.rip_run.specs.declared.section.Ending.TheVariants.{Stopped};
 
 use crate::operands::Operands;
@@ -35,7 +35,7 @@ pub struct Run {
     pub ending: Ending,
 }
 
-/// Runs the text of a section from an empty stack.
+/// Runs the text of a section, one of whole numbers and names alone, from an empty stack.
 #[tactic(auto, using(
     crate::proofs::Tokens::run_begins,
     crate::proofs::Tokens::token_goes_on,
@@ -44,7 +44,7 @@ pub struct Run {
     crate::proofs::Tokens::text_ends
 ))]
 pub fn interpret(alloc: Global, text: &[u8]) -> Result<Run, NoMemory>
-    requires { is_simple text.now ≡ true }
+    requires { is_plain text.now ≡ true }
     ensures { IfOk result (λ run. run ≡ run_of text.now) }
 {
     let mut stack = Operands::new(alloc);
