@@ -1,4 +1,4 @@
--- A reader or a writer whose faults are counted.
+-- A reader or a writer, and how often it has failed.
 use Rattle.std.specs.Prelude.{ℕ}
 
 pub record Counted (D : Type 0) : Type 0 where

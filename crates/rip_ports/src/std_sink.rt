@@ -24,6 +24,7 @@ impl<W> Model for StdSink<W> {
 impl<W> StdSink<W> {
     ghost use Rattle.rip_ports.specs.Ports.{raised};
 
+    /// Over this writer, with a count of 0.
     pub fn new(writer: W) -> StdSink<W>
         ensures { result ≡ record { device = writer; faults = 0 } }
     {

@@ -22,6 +22,7 @@ impl<R> Model for StdSource<R> {
 }
 
 impl<R> StdSource<R> {
+    /// Over this reader, with a count of 0.
     pub fn new(reader: R) -> StdSource<R>
         ensures { result ≡ record { device = reader; faults = 0 } }
     {

@@ -1,18 +1,56 @@
 //! Tests of the sources, sinks and gates.
 
 use crate::{Failed, Gate, MemSink, MemSource, OpenGate, Sink, Source, StdSink, StdSource};
+use std::alloc::Global;
 use std::io;
 use std::io::{ErrorKind, Read, Write};
+use std::process::Abort;
 use std::test::Fail;
 
-/// Takes once, into room for four bytes, and gives what was taken.
-fn taken<S: Source>(source: &mut S, into: &mut [u8; 4]) -> Result<usize, Failed> {
-    source.take(into)
+/// An interrupted read, which is done again, and one that fails and loses no byte.
+static READ: [Option<&[u8]>; 5] = [Some(b"ab"), Some(b"c"), None, Some(b"d"), Some(b"")];
+
+/// Short and interrupted writes, a failure in mid-piece, a write that takes nothing, an interrupted flush, and a
+/// flush that fails.
+static WRITTEN: [(&[u8], bool); 5] = [
+    (b"abc", true),
+    (b"defg", false),
+    (b"h", false),
+    (b"i", true),
+    (b"j", false),
+];
+
+/// Two bytes a take, the second of which fails.
+static GIVEN: [Option<&[u8]>; 5] = [Some(b"he"), None, Some(b"ll"), Some(b"o"), Some(b"")];
+
+/// A step of 0 acts as 1.
+static GIVEN_BY_ONES: [Option<&[u8]>; 3] = [Some(b"h"), Some(b"i"), Some(b"")];
+
+/// The second piece doesn't fit.
+static SHORT: [(&[u8], bool); 2] = [(b"ab", true), (b"cd", false)];
+
+/// The second put keeps two of five bytes, and the fourth one of four, since no more fits.
+static HALVED: [(&[u8], bool); 4] = [
+    (b"abc", true),
+    (b"defgh", false),
+    (b"fgh", true),
+    (b"ijkl", false),
+];
+
+/// Takes into room for four bytes, and compares what comes: some bytes, or `None` where the take fails.
+fn check_takes<S: Source>(rt: &impl Abort, source: &mut S, wanted: &[Option<&[u8]>]) {
+    for wanted in wanted {
+        let mut into = [0; 4];
+        let taken = source.take(&mut into).ok();
+        assert_eq!(rt; taken.map(|count| &into[..count]), *wanted);
+    }
 }
 
-/// Whether a put succeeds.
-fn is_taken<P: Sink>(sink: &mut P, piece: &[u8]) -> bool {
-    sink.put(piece).is_ok()
+/// Puts pieces, and compares whether each is taken.
+fn check_puts<P: Sink>(rt: &impl Abort, sink: &mut P, pieces: &[(&[u8], bool)]) {
+    for (piece, is_taken) in pieces {
+        assert_eq!(rt; sink.put(piece).is_ok(), *is_taken);
+    }
 }
 
 fn pass<G: Gate + Sync>(gate: &G) {
@@ -61,6 +99,16 @@ struct FakeWriter {
     flushes: usize,
 }
 
+impl FakeWriter {
+    fn new(alloc: Global) -> FakeWriter {
+        FakeWriter {
+            kept: Vec::new(alloc),
+            writes: 0,
+            flushes: 0,
+        }
+    }
+}
+
 impl Write for FakeWriter {
     fn write(&mut self, buf: &[u8]) -> io::Result<usize> {
         self.writes = self.writes.saturating_add(1);
@@ -86,82 +134,48 @@ impl Write for FakeWriter {
     }
 }
 
-#[test]
-fn adapters(rt: HostRuntime) -> Result<(), Fail> {
+fn check_std_source(rt: &impl Abort) {
     let mut source = StdSource::new(FakeReader { calls: 0 });
-    let mut into = [0; 4];
-    assert_eq!(rt; taken(&mut source, &mut into), Ok(2));
-    assert_eq!(rt; into, [b'a', b'b', 0, 0]);
-    assert_eq!(rt;
-        taken(&mut source, &mut into),
-        Ok(1),
-        "an interrupted read is done again"
-    );
-    assert_eq!(rt; into[0], b'c');
-    assert_eq!(rt; taken(&mut source, &mut into), Err(Failed));
-    assert_eq!(rt;
-        taken(&mut source, &mut into),
-        Ok(1),
-        "no byte is lost by the failure"
-    );
-    assert_eq!(rt; into[0], b'd');
-    assert_eq!(rt; taken(&mut source, &mut into), Ok(0));
+    check_takes(rt, &mut source, &READ);
+}
 
-    let mut writer = FakeWriter {
-        kept: Vec::new(rt.alloc()),
-        writes: 0,
-        flushes: 0,
-    };
-    let mut sink = StdSink::new(&mut writer);
-    assert!(rt;
-        is_taken(&mut sink, b"abc"),
-        "a short write and an interrupted one"
-    );
-    assert!(rt; !is_taken(&mut sink, b"defg"), "a failure in mid-piece");
-    assert!(rt; !is_taken(&mut sink, b"h"), "a write that takes nothing");
-    assert!(rt; is_taken(&mut sink, b"i"), "an interrupted flush");
-    assert!(rt; !is_taken(&mut sink, b"j"), "a flush that fails");
+fn check_std_sink(rt: &impl Abort, alloc: Global) {
+    let mut writer = FakeWriter::new(alloc);
+    check_puts(rt, &mut StdSink::new(&mut writer), &WRITTEN);
     assert_eq!(rt; writer.kept.as_slice(), b"abcdeij".as_slice());
-    assert_eq!(rt; writer.flushes, 4);
-    Ok(())
+}
+
+fn check_mem_source(rt: &impl Abort, bytes: Vec<u8>, fail: Vec<u64>) {
+    check_takes(rt, &mut MemSource::new(bytes, 2, fail), &GIVEN);
+}
+
+fn check_mem_source_by_ones(rt: &impl Abort, bytes: Vec<u8>, fail: Vec<u64>) {
+    check_takes(rt, &mut MemSource::new(bytes, 0, fail), &GIVEN_BY_ONES);
+}
+
+fn check_mem_sink(rt: &impl Abort, mut sink: MemSink, pieces: &[(&[u8], bool)], wanted: &[u8]) {
+    check_puts(rt, &mut sink, pieces);
+    assert_eq!(rt; sink.bytes(), wanted);
+}
+
+#[test]
+fn adapters(rt: HostRuntime) {
+    check_std_source(&rt);
+    check_std_sink(&rt, rt.alloc());
 }
 
 #[test]
 fn ports_in_memory(rt: HostRuntime) -> Result<(), Fail> {
-    let fail = [2].to_vec(rt.alloc())?;
-    let mut source = MemSource::new(b"hello".to_vec(rt.alloc())?, 2, fail);
-    let mut into = [0; 4];
-    assert_eq!(rt; taken(&mut source, &mut into), Ok(2));
-    assert_eq!(rt; into, *b"he\0\0");
-    assert_eq!(rt; taken(&mut source, &mut into), Err(Failed));
-    assert_eq!(rt; taken(&mut source, &mut into), Ok(2));
-    assert_eq!(rt; into, *b"ll\0\0");
-    assert_eq!(rt; taken(&mut source, &mut into), Ok(1));
-    assert_eq!(rt; into, *b"ol\0\0");
-    assert_eq!(rt; taken(&mut source, &mut into), Ok(0));
-    let mut source = MemSource::new(b"hello".to_vec(rt.alloc())?, 0, Vec::new(rt.alloc()));
-    assert_eq!(rt;
-        taken(&mut source, &mut into),
-        Ok(1),
-        "a step of 0 acts as 1"
+    let alloc = rt.alloc();
+    check_mem_source(&rt, b"hello".to_vec(alloc)?, [2].to_vec(alloc)?);
+    check_mem_source_by_ones(&rt, b"hi".to_vec(alloc)?, Vec::new(alloc));
+    check_mem_sink(&rt, MemSink::new(alloc, 3, Vec::new(alloc))?, &SHORT, b"ab");
+    check_mem_sink(
+        &rt,
+        MemSink::new(alloc, 9, [2, 4].to_vec(alloc)?)?,
+        &HALVED,
+        b"abcdefghi",
     );
-
-    let mut sink = MemSink::new(rt.alloc(), 3, Vec::new(rt.alloc()))?;
-    assert!(rt; is_taken(&mut sink, b"ab"));
-    assert!(rt; !is_taken(&mut sink, b"cd"), "the piece doesn't fit");
-    assert_eq!(rt; sink.bytes(), b"ab".as_slice());
-    let fail = [2, 4].to_vec(rt.alloc())?;
-    let mut sink = MemSink::new(rt.alloc(), 9, fail)?;
-    assert!(rt; is_taken(&mut sink, b"abc"));
-    assert!(rt;
-        !is_taken(&mut sink, b"defgh"),
-        "keeps the first half, cut down"
-    );
-    assert_eq!(rt; sink.bytes(), b"abcde".as_slice());
-    assert!(rt; is_taken(&mut sink, b"fgh"));
-    assert!(rt; !is_taken(&mut sink, b"ijkl"), "keeps no more than fits");
-    assert_eq!(rt; sink.bytes(), b"abcdefghi".as_slice());
-
     pass(&OpenGate);
     Ok(())
 }
