@@ -33,17 +33,17 @@ of_overflow job h = of_not_yet job (ap (λ o. nat_lt 8192 (length job) || not (i
 
 pub of_too_long : (job : List ℕ) → 8192 < length job → plain_result job ≡ refused not_yet_line status.NotYet
 of_too_long job h =
-  let long : nat_lt 8192 (length job) ≡ true = grind (arith, nat_tests) in
-  of_not_yet job (ap (λ l. l || not (is_simple job) || is_overflow (run_of job).ending) long)
+    let long : nat_lt 8192 (length job) ≡ true = grind (arith, nat_tests) in
+    of_not_yet job (ap (λ l. l || not (is_simple job) || is_overflow (run_of job).ending) long)
 
 pub of_run : (job : List ℕ) → length job ≤ 8192 → is_simple job ≡ true → is_overflow (run_of job).ending ≡ false →
-  plain_result job ≡ result_of_run (run_of job)
+    plain_result job ≡ result_of_run (run_of job)
 of_run job l s o =
-  let short : nat_lt 8192 (length job) ≡ false = grind (arith, nat_tests) in
-  let known : is_not_yet job ≡ false =
+    let short : nat_lt 8192 (length job) ≡ false = grind (arith, nat_tests) in
+    let known : is_not_yet job ≡ false =
     ap (λ a. a || not (is_simple job) || is_overflow (run_of job).ending) short
     ∙ ap (λ b. not b || is_overflow (run_of job).ending) s ∙ o in
-  ap (λ b. if b then refused not_yet_line status.NotYet else result_of_run (run_of job)) known
+    ap (λ b. if b then refused not_yet_line status.NotYet else result_of_run (run_of job)) known
 
 pub defined_status : (e : Ending) → IsDefined (status_of e)
 defined_status (Stopped _ _) = tt

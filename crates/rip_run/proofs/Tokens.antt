@@ -11,54 +11,54 @@ use Rattle.rip_run.specs.declared.section.Ending.TheVariants as ending
 use Rattle.rip_run.specs.declared.section.Run.{Run}
 
 at_scan : (n count : ℕ) (text : List ℕ) (at : ℕ) (s : Scan) → count ≤ n → s ≡ token_at text at →
-  tokens_from (n + 1 - count) text at ≡ followed s (tokens_from (n - count) text)
+    tokens_from (n + 1 - count) text at ≡ followed s (tokens_from (n - count) text)
 at_scan n count text at s h e =
-  let k : n + 1 - count ≡ suc (n - count) = omega arith in
-  ap (λ m. tokens_from m text at) k ∙ ap (λ r. followed r (tokens_from (n - count) text)) (sym e)
+    let k : n + 1 - count ≡ suc (n - count) = omega arith in
+    ap (λ m. tokens_from m text at) k ∙ ap (λ r. followed r (tokens_from (n - count) text)) (sym e)
 
 says_twice : (a b : List ℕ) (r : Run) → says a (says b r) ≡ says (a ++ b) r
 says_twice a b r = ap (λ s. record r { said = s }) (sym (append_assoc a b r.said))
 
 pub token_goes_on : (n count : ℕ) (text : List ℕ) (at next : ℕ) (t : Token) (said after : List ℕ) (stack left : List ℤ) →
-  count ≤ n → scan.Token t next ≡ token_at text at → Steps (step_of t stack) None left said after →
-  says said (execute (tokens_from (n + 1 - count) text at) stack) ≡ says after (execute (tokens_from (n + 1 - (count + 1)) text next) left)
+    count ≤ n → scan.Token t next ≡ token_at text at → Steps (step_of t stack) None left said after →
+    says said (execute (tokens_from (n + 1 - count) text at) stack) ≡ says after (execute (tokens_from (n + 1 - (count + 1)) text next) left)
 token_goes_on n count text at next t said after stack left h e d =
-  let k : n - count ≡ n + 1 - (count + 1) = omega arith in
-  let step = step_of t stack in
-  let rest = execute (tokens_from (n - count) text next) step.stack in
-  ap (λ s. says said (execute s stack)) (at_scan n count text at (scan.Token t next) h e)
-  ∙ ap (λ o. says said (says step.said (after_step o rest))) (sym d.ending_is)
-  ∙ says_twice said step.said rest
-  ∙ ap (λ a. says a rest) (sym d.said_is)
-  ∙ ap (λ m. says after (execute (tokens_from m text next) step.stack)) k
-  ∙ ap (λ s. says after (execute (tokens_from (n + 1 - (count + 1)) text next) s)) (sym d.stack_is)
+    let k : n - count ≡ n + 1 - (count + 1) = omega arith in
+    let step = step_of t stack in
+    let rest = execute (tokens_from (n - count) text next) step.stack in
+    ap (λ s. says said (execute s stack)) (at_scan n count text at (scan.Token t next) h e)
+    ∙ ap (λ o. says said (says step.said (after_step o rest))) (sym d.ending_is)
+    ∙ says_twice said step.said rest
+    ∙ ap (λ a. says a rest) (sym d.said_is)
+    ∙ ap (λ m. says after (execute (tokens_from m text next) step.stack)) k
+    ∙ ap (λ s. says after (execute (tokens_from (n + 1 - (count + 1)) text next) s)) (sym d.stack_is)
 
 pub token_ends : (n count : ℕ) (text : List ℕ) (at next : ℕ) (t : Token) (said after : List ℕ) (stack left : List ℤ) (ends : Option Ending) (e : Ending) →
-  count ≤ n → scan.Token t next ≡ token_at text at → Steps (step_of t stack) ends left said after → ends ≡ Some e →
-  says said (execute (tokens_from (n + 1 - count) text at) stack) ≡ record { said = after; ending = e }
+    count ≤ n → scan.Token t next ≡ token_at text at → Steps (step_of t stack) ends left said after → ends ≡ Some e →
+    says said (execute (tokens_from (n + 1 - count) text at) stack) ≡ record { said = after; ending = e }
 token_ends n count text at next t said after stack left ends e h i d s =
-  let step = step_of t stack in
-  let rest = execute (tokens_from (n - count) text next) step.stack in
-  ap (λ s. says said (execute s stack)) (at_scan n count text at (scan.Token t next) h i)
-  ∙ ap (λ o. says said (says step.said (after_step o rest))) (sym d.ending_is ∙ s)
-  ∙ says_twice said step.said (record { said = []; ending = e })
-  ∙ ap (λ a. record { said = a; ending = e }) (append-nil (said ++ step.said) ∙ sym d.said_is)
+    let step = step_of t stack in
+    let rest = execute (tokens_from (n - count) text next) step.stack in
+    ap (λ s. says said (execute s stack)) (at_scan n count text at (scan.Token t next) h i)
+    ∙ ap (λ o. says said (says step.said (after_step o rest))) (sym d.ending_is ∙ s)
+    ∙ says_twice said step.said (record { said = []; ending = e })
+    ∙ ap (λ a. record { said = a; ending = e }) (append-nil (said ++ step.said) ∙ sym d.said_is)
 
 pub error_ends : (n count : ℕ) (text : List ℕ) (at next : ℕ) (error : ErrorName) (said : List ℕ) (stack : List ℤ) →
-  count ≤ n → scan.Bad error next ≡ token_at text at →
-  says said (execute (tokens_from (n + 1 - count) text at) stack) ≡ record { said = said; ending = ending.Stopped error None }
+    count ≤ n → scan.Bad error next ≡ token_at text at →
+    says said (execute (tokens_from (n + 1 - count) text at) stack) ≡ record { said = said; ending = ending.Stopped error None }
 error_ends n count text at next error said stack h e =
-  ap (λ s. says said (execute s stack)) (at_scan n count text at (scan.Bad error next) h e)
-  ∙ ap (λ a. record { said = a; ending = ending.Stopped error None }) (append-nil said)
+    ap (λ s. says said (execute s stack)) (at_scan n count text at (scan.Bad error next) h e)
+    ∙ ap (λ a. record { said = a; ending = ending.Stopped error None }) (append-nil said)
 
 pub text_ends : (n count : ℕ) (text : List ℕ) (at : ℕ) (said : List ℕ) (stack : List ℤ) →
-  count ≤ n → scan.End ≡ token_at text at →
-  says said (execute (tokens_from (n + 1 - count) text at) stack) ≡ record { said = said; ending = ending.Through }
+    count ≤ n → scan.End ≡ token_at text at →
+    says said (execute (tokens_from (n + 1 - count) text at) stack) ≡ record { said = said; ending = ending.Through }
 text_ends n count text at said stack h e =
-  ap (λ s. says said (execute s stack)) (at_scan n count text at scan.End h e)
-  ∙ ap (λ a. record { said = a; ending = ending.Through }) (append-nil said)
+    ap (λ s. says said (execute s stack)) (at_scan n count text at scan.End h e)
+    ∙ ap (λ a. record { said = a; ending = ending.Through }) (append-nil said)
 
 pub run_begins : (text : List ℕ) → run_of text ≡ says [] (execute (tokens_from (length text + 1 - 0) text 0) [])
 run_begins text =
-  let k : suc (length text) ≡ length text + 1 - 0 = omega arith in
-  ap (λ m. says [] (execute (tokens_from m text 0) [])) k
+    let k : suc (length text) ≡ length text + 1 - 0 = omega arith in
+    ap (λ m. says [] (execute (tokens_from m text 0) [])) k

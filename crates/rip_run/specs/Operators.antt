@@ -13,14 +13,14 @@ is_same_text = pointwise nat_eq
 -- the operator of a name
 abbrev pub operator_named : List ℕ → Option Operator
 operator_named name =
-  if is_same_text name (codes "add") then Some operator.Add
-  else (if is_same_text name (codes "sub") then Some operator.Sub
-  else (if is_same_text name (codes "pop") then Some operator.Pop
-  else (if is_same_text name (codes "dup") then Some operator.Dup
-  else (if is_same_text name (codes "exch") then Some operator.Exch
-  else (if is_same_text name (codes "=") then Some operator.Print
-  else (if is_same_text name (codes "quit") then Some operator.Quit
-  else None))))))
+    if is_same_text name (codes "add") then Some operator.Add
+    else (if is_same_text name (codes "sub") then Some operator.Sub
+    else (if is_same_text name (codes "pop") then Some operator.Pop
+    else (if is_same_text name (codes "dup") then Some operator.Dup
+    else (if is_same_text name (codes "exch") then Some operator.Exch
+    else (if is_same_text name (codes "=") then Some operator.Print
+    else (if is_same_text name (codes "quit") then Some operator.Quit
+    else None))))))
 
 -- what an operator does, and the stack after it, the newest first
 pub record Outcome : Type 0 where

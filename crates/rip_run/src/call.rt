@@ -48,9 +48,10 @@ pub fn rip_plain<S: Source, P: Sink, B: Sink>(
     ensures write_fault { result ≡ WriteFault →
         HasRisen (P.faults pages.old) (P.faults pages.new) ⊎ HasRisen (B.faults back.old) (B.faults back.new) }
 
-    // Words in the grammar, a job that is interpreted and no fault: the job is run, or memory runs out.
+    // Words in the grammar, a job that is interpreted and no fault that rose: the job is run, or memory runs out.
     ensures complete { (job : List ℕ) → IsSome (command_of words.now) → S.left source.old ≡ Some job → is_not_yet job ≡ false →
-        result ≢ ReadFault → result ≢ WriteFault → IsRunOrWanting result }
+        ¬ HasRisen (S.faults source.old) (S.faults source.new) → ¬ HasRisen (P.faults pages.old) (P.faults pages.new) →
+        ¬ HasRisen (B.faults back.old) (B.faults back.new) → IsRunOrWanting result }
 {
     match command_of(words) {
         Some(Command::Plain) => plain(alloc, source, back),

@@ -8,10 +8,11 @@ mod plain;
 mod reading;
 mod section;
 mod status;
+#[cfg(test)]
+mod tests;
 mod texts;
 mod word;
 
 pub use call::rip_plain;
-pub use section::{Ending, Run, interpret};
 pub use status::Status;
-pub use word::{Command, Word, command_of};
+pub use word::Word;

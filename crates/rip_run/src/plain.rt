@@ -10,8 +10,8 @@ ghost use Rattle.rip_run.specs.Section.{run_of};
 
 use crate::reading::{Unread, read_job};
 use crate::section::{Ending, Run, interpret};
-use crate::texts::{close, end_line, not_yet_line, report};
 use crate::status::Status;
+use crate::texts::{close, end_line, not_yet_line, report};
 use ps_objects::{Name, NoMemory, Text};
 use ps_scan::simple;
 use rip_ports::{Failed, Sink, Source};
@@ -38,13 +38,7 @@ pub(crate) fn plain<S: Source, B: Sink>(alloc: Global, source: &mut S, back: &mu
 }
 
 /// Writes the result of running a job of at most 8,192 bytes.
-#[tactic(auto, using(
-    crate::proofs::Answering::of_not_simple,
-    crate::proofs::Answering::of_overflow,
-    crate::proofs::Answering::of_run,
-    crate::proofs::Answering::defined_status,
-    crate::proofs::Answering::nothing_appended
-))]
+#[tactic(auto, using(crate::proofs::Answering::of_not_simple, crate::proofs::Answering::of_overflow, crate::proofs::Answering::of_run, crate::proofs::Answering::defined_status, crate::proofs::Answering::nothing_appended))]
 fn answer_job<B: Sink>(alloc: Global, job: &[u8], back: &mut B) -> Status
     requires { length job.now ≤ 8192 }
     ensures status { IsDefined result → result ≡ (plain_result job.now).status }

@@ -14,7 +14,7 @@ use std::alloc::Global;
 
 /// How a section ends.
 #[derive(Drop)]
-pub enum Ending {
+pub(crate) enum Ending {
     /// Its text was read to its end.
     Through,
     /// `quit` ended it, and the job.
@@ -30,20 +30,14 @@ pub enum Ending {
 
 /// What a section printed, and how it ended.
 #[derive(Drop)]
-pub struct Run {
+pub(crate) struct Run {
     pub said: Text,
     pub ending: Ending,
 }
 
 /// Runs the text of a section, one of whole numbers and names alone, from an empty stack.
-#[tactic(auto, using(
-    crate::proofs::Tokens::run_begins,
-    crate::proofs::Tokens::token_goes_on,
-    crate::proofs::Tokens::token_ends,
-    crate::proofs::Tokens::error_ends,
-    crate::proofs::Tokens::text_ends
-))]
-pub fn interpret(alloc: Global, text: &[u8]) -> Result<Run, NoMemory>
+#[tactic(auto, using(crate::proofs::Tokens::run_begins, crate::proofs::Tokens::token_goes_on, crate::proofs::Tokens::token_ends, crate::proofs::Tokens::error_ends, crate::proofs::Tokens::text_ends))]
+pub(crate) fn interpret(alloc: Global, text: &[u8]) -> Result<Run, NoMemory>
     requires { is_plain text.now ≡ true }
     ensures { IfOk result (λ run. run ≡ run_of text.now) }
 {
@@ -68,11 +62,7 @@ pub fn interpret(alloc: Global, text: &[u8]) -> Result<Run, NoMemory>
 }
 
 /// Executes a token, and says how the section ends with it, if it does.
-fn execute(
-    token: Token,
-    stack: &mut Operands,
-    said: &mut Text,
-) -> Result<Option<Ending>, NoMemory>
+fn execute(token: Token, stack: &mut Operands, said: &mut Text) -> Result<Option<Ending>, NoMemory>
     ensures { IfOk result (λ ending. Steps (step_of token stack.old) ending stack.new said.old said.new) }
 {
     match token {

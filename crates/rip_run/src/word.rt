@@ -29,7 +29,7 @@ impl Word {
         })
     }
 
-    pub fn as_slice(&self) -> &[u8]
+    pub(crate) fn as_slice(&self) -> &[u8]
         ensures { result.now ≡ self.now }
     {
         self.bytes.as_slice()
@@ -38,13 +38,13 @@ impl Word {
 
 /// What the words ask for.
 #[derive(Clone, Copy, Debug, PartialEq, Eq)]
-pub enum Command {
+pub(crate) enum Command {
     /// All sections in sequence on one memory.
     Plain,
 }
 
 /// The command of the words, where they are in the grammar: the one word `plain`.
-pub fn command_of(words: &[Word]) -> Option<Command>
+pub(crate) fn command_of(words: &[Word]) -> Option<Command>
     ensures { result ≡ command_of words.now }
 {
     match words {
