@@ -1,7 +1,8 @@
 -- The operators on whole numbers (section 8.1 of the language manual).
-use Rattle.std.specs.Prelude.{◌≡◌, ◌<◌, ◌&&◌, ℕ, ℤ, pos, negsuc, ◌+ℤ◌, ◌-ℤ◌, int_le, length, Bool, List, [], ◌∷◌, Option, Some, None, if◌then◌else◌, codes, nat_eq}
+use Rattle.std.specs.Prelude.{◌≡◌, ◌<◌, ◌&&◌, ℕ, ℤ, pos, negsuc, ◌+ℤ◌, ◌-ℤ◌, int_le, length, nat_le, Bool, List, [], ◌∷◌, Option, Some, None, if◌then◌else◌, codes, nat_eq}
 use Rattle.std.specs.Cmp.Lexicographic.{pointwise}
-use Rattle.ps_objects.specs.declared.error_name.ErrorName.TheVariants.{StackUnderflow}
+use Rattle.ps_objects.specs.declared.error_name.ErrorName.{ErrorName}
+use Rattle.ps_objects.specs.declared.error_name.ErrorName.TheVariants.{StackOverflow, StackUnderflow}
 use Rattle.rip_run.specs.declared.operator.Operator.{Operator}
 use Rattle.rip_run.specs.declared.operator.Operator.TheVariants as operator
 use Rattle.rip_run.specs.declared.operator.Effect.{Effect}
@@ -31,11 +32,16 @@ pub record Outcome : Type 0 where
 abbrev pub in_range : ℤ → Option ℤ
 in_range n = if int_le (negsuc 2147483647) n && int_le n (pos 2147483647) then Some n else None
 
+-- at most 5,000 operands
+abbrev pub is_full : List ℤ → Bool
+is_full stack = nat_le 5000 (length stack)
+
 abbrev pub goes : List ℤ → Outcome
 goes stack = record { effect = effect.Goes; stack = stack }
 
-abbrev pub refused : List ℤ → Outcome
-refused stack = record { effect = effect.Fails StackUnderflow; stack = stack }
+-- a refusal leaves the stack
+abbrev pub fails : ErrorName → List ℤ → Outcome
+fails error stack = record { effect = effect.Fails error; stack = stack }
 
 -- the number on what is below, where it has 32 bits
 abbrev pub leaves : Option ℤ → List ℤ → Outcome
@@ -46,11 +52,11 @@ abbrev pub effect_of : Operator → List ℤ → Outcome
 effect_of operator.Add (b ∷ a ∷ below) = leaves (in_range (a +ℤ b)) below
 effect_of operator.Sub (b ∷ a ∷ below) = leaves (in_range (a -ℤ b)) below
 effect_of operator.Pop (_ ∷ below) = goes below
-effect_of operator.Dup (a ∷ below) = goes (a ∷ a ∷ below)
+effect_of operator.Dup (a ∷ below) = if is_full (a ∷ below) then fails StackOverflow (a ∷ below) else goes (a ∷ a ∷ below)
 effect_of operator.Exch (b ∷ a ∷ below) = goes (a ∷ b ∷ below)
 effect_of operator.Print (a ∷ below) = record { effect = effect.Prints a; stack = below }
 effect_of operator.Quit stack = record { effect = effect.Quits; stack = stack }
-effect_of _ stack = refused stack
+effect_of _ stack = fails StackUnderflow stack
 
 -- the newest two were taken away, or there are fewer and they stay
 abbrev pub TakesTwo : Option (ℤ × ℤ) → List ℤ → List ℤ → Type 0

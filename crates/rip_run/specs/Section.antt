@@ -1,14 +1,14 @@
 -- The meaning of a section of whole numbers: its tokens are executed in order.
-use Rattle.std.specs.Prelude.{◌≡◌, ℕ, zero, suc, ℤ, List, [], ◌∷◌, ◌++◌, length, Option, Some, None}
+use Rattle.std.specs.Prelude.{◌≡◌, ℕ, zero, suc, ◌+◌, ℤ, Bool, true, false, List, [], ◌∷◌, ◌++◌, length, nat_le, Option, Some, None, if◌then◌else◌}
 use Rattle.std.specs.Fmt.{signed_decimal}
 use Rattle.ps_objects.specs.declared.error_name.ErrorName.{ErrorName}
-use Rattle.ps_objects.specs.declared.error_name.ErrorName.TheVariants.{SyntaxError, Undefined}
+use Rattle.ps_objects.specs.declared.error_name.ErrorName.TheVariants.{LimitCheck, StackOverflow, SyntaxError, Undefined}
 use Rattle.ps_scan.specs.Token.{token_at}
 use Rattle.ps_scan.specs.declared.tokens.Token.{Token}
 use Rattle.ps_scan.specs.declared.tokens.Token.TheVariants as token
 use Rattle.ps_scan.specs.declared.tokens.Scan.{Scan}
 use Rattle.ps_scan.specs.declared.tokens.Scan.TheVariants as scan
-use Rattle.rip_run.specs.Operators.{operator_named, effect_of, Outcome}
+use Rattle.rip_run.specs.Operators.{effect_of, is_full, operator_named, Outcome}
 use Rattle.rip_run.specs.declared.operator.Operator.{Operator}
 use Rattle.rip_run.specs.declared.operator.Effect.{Effect}
 use Rattle.rip_run.specs.declared.operator.Effect.TheVariants as effect
@@ -47,21 +47,33 @@ ends e stack = record { said = []; stack = stack; ending = Some e }
 abbrev pub number_line : ℤ → List ℕ
 number_line n = signed_decimal n ++ 10 ∷ []
 
-abbrev pub after_operator : List ℕ → Effect → List ℤ → Step
-after_operator name effect.Goes stack = goes_on stack
-after_operator name (effect.Prints n) stack = record { said = number_line n; stack = stack; ending = None }
-after_operator name (effect.Fails e) stack = ends (ending.Stopped e (Some name)) stack
-after_operator name effect.Quits stack = ends ending.Quit stack
-after_operator name effect.Overflows stack = ends ending.Overflows stack
+-- a text fits into the messages of a section that is no page, of which so many bytes are told
+abbrev pub has_room : ℕ → List ℕ → Bool
+has_room told text = nat_le (told + length text) 16777216
 
-abbrev pub step_of_name : List ℕ → Option Operator → List ℤ → Step
-step_of_name name None stack = ends (ending.Stopped Undefined (Some name)) stack
-step_of_name name (Some op) stack = let outcome = effect_of op stack in after_operator name outcome.effect outcome.stack
+abbrev pub prints : Bool → List ℕ → ℤ → List ℤ → Step
+prints true name n stack = record { said = number_line n; stack = stack; ending = None }
+prints false name n stack = ends (ending.Stopped LimitCheck (Some name)) (n ∷ stack)
 
-abbrev pub step_of : Token → List ℤ → Step
-step_of (token.Integer n) stack = goes_on (n ∷ stack)
-step_of (token.Exec name) stack = step_of_name name (operator_named name) stack
-step_of token.BodyEnd stack = ends (ending.Stopped SyntaxError None) stack
+abbrev pub after_operator : List ℕ → Effect → List ℤ → ℕ → Step
+after_operator name effect.Goes stack told = goes_on stack
+after_operator name (effect.Prints n) stack told = prints (has_room told (number_line n)) name n stack
+after_operator name (effect.Fails e) stack told = ends (ending.Stopped e (Some name)) stack
+after_operator name effect.Quits stack told = ends ending.Quit stack
+after_operator name effect.Overflows stack told = ends ending.Overflows stack
+
+abbrev pub step_of_name : List ℕ → Option Operator → List ℤ → ℕ → Step
+step_of_name name None stack told = ends (ending.Stopped Undefined (Some name)) stack
+step_of_name name (Some op) stack told = let outcome = effect_of op stack in after_operator name outcome.effect outcome.stack told
+
+abbrev pub step_of_number : ℤ → List ℤ → Step
+step_of_number n stack = if is_full stack then ends (ending.Stopped StackOverflow (Some (signed_decimal n))) stack else goes_on (n ∷ stack)
+
+-- what a token does to a stack, where so many bytes of messages are told
+abbrev pub step_of : Token → List ℤ → ℕ → Step
+step_of (token.Integer n) stack told = step_of_number n stack
+step_of (token.Exec name) stack told = step_of_name name (operator_named name) stack told
+step_of token.BodyEnd stack told = ends (ending.Stopped SyntaxError None) stack
 
 abbrev pub says : List ℕ → Run → Run
 says text run = record run { said = text ++ run.said }
@@ -70,15 +82,15 @@ abbrev pub after_step : Option Ending → Run → Run
 after_step None rest = rest
 after_step (Some e) rest = record { said = []; ending = e }
 
--- the run of tokens from a stack
-abbrev pub execute : List Scan → List ℤ → Run
-execute (scan.Token t _ ∷ rest) stack = let step = step_of t stack in says step.said (after_step step.ending (execute rest step.stack))
-execute (scan.Bad e _ ∷ rest) stack = record { said = []; ending = ending.Stopped e None }
-execute _ stack = record { said = []; ending = ending.Through }
+-- the run of tokens from a stack, where so many bytes of messages are told
+abbrev pub execute : List Scan → List ℤ → ℕ → Run
+execute (scan.Token t _ ∷ rest) stack told = let step = step_of t stack told in says step.said (after_step step.ending (execute rest step.stack (told + length step.said)))
+execute (scan.Bad e _ ∷ rest) stack told = record { said = []; ending = ending.Stopped e None }
+execute _ stack told = record { said = []; ending = ending.Through }
 
 -- the run of a section's text
 abbrev pub run_of : List ℕ → Run
-run_of text = execute (tokens_of text) []
+run_of text = execute (tokens_of text) [] 0
 
 -- a step was done
 pub record Steps (step : Step) (ending : Option Ending) (stack : List ℤ) (before after : List ℕ) : Type 0 where

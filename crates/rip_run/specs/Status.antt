@@ -9,6 +9,8 @@ abbrev pub exit_of : Status → ℕ
 exit_of (status.Done _) = 0
 exit_of (status.JobError _) = 1
 exit_of status.Usage = 2
+exit_of status.TooLarge = 3
+exit_of (status.TooManyPages _) = 3
 exit_of status.ReadFault = 4
 exit_of status.WriteFault = 5
 exit_of status.NoMemory = 6

@@ -1,10 +1,10 @@
 //! The top calls: the words of a command, the reading of a job, and what is written for it.
 #![tactic(auto)]
 
+mod answer;
 mod call;
 mod operands;
 mod operator;
-mod plain;
 mod reading;
 mod section;
 mod status;

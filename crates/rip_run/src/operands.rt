@@ -1,9 +1,13 @@
 //! The operand stack of whole numbers.
 ghost use Rattle.std.specs.Prelude.{◌≡◌, [], ◌∷◌, OnOk, MatchOption};
+ghost use Rattle.rip_run.specs.Operators.{is_full};
 
 use ps_objects::NoMemory;
 use std::alloc::Global;
 use std::marker::Model;
+
+/// The most operands.
+const STACK_LIMIT: usize = 5000;
 
 /// A stack of whole numbers, seen with the newest first.
 #[derive(Drop)]
@@ -26,6 +30,13 @@ impl Operands {
         Operands {
             numbers: Vec::new(alloc),
         }
+    }
+
+    /// Whether it holds as many numbers as it may: 5,000.
+    pub(crate) fn is_full(&self) -> bool
+        ensures { result ≡ is_full self.now }
+    {
+        self.numbers.len() >= STACK_LIMIT
     }
 
     pub(crate) fn push(&mut self, number: i32) -> Result<(), NoMemory>

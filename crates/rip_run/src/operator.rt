@@ -103,6 +103,9 @@ fn dup(stack: &mut Operands) -> Result<Effect, NoMemory>
     match stack.pop() {
         Some(a) => {
             stack.push(a)?;
+            if stack.is_full() {
+                return Ok(Effect::Fails(ErrorName::StackOverflow));
+            }
             stack.push(a)?;
             Ok(Effect::Goes)
         }

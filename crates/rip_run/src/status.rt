@@ -10,6 +10,10 @@ pub enum Status {
     JobError { reruns: u64 },
     /// The words are not in the grammar.
     Usage,
+    /// The source gave more than 268,435,456 bytes.
+    TooLarge,
+    /// The job has more than 100,000 pages: so many.
+    TooManyPages { count: u32 },
     /// The source failed.
     ReadFault,
     /// A sink failed.
@@ -31,6 +35,7 @@ impl Status {
             Status::Done { .. } => 0,
             Status::JobError { .. } => 1,
             Status::Usage => 2,
+            Status::TooLarge | Status::TooManyPages { .. } => 3,
             Status::ReadFault => 4,
             Status::WriteFault => 5,
             Status::NoMemory => 6,

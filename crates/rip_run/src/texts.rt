@@ -1,6 +1,6 @@
 //! The lines that are written for a job.
 ghost use Rattle.std.specs.Prelude.{◌≡◌, ◌++◌, codes, IfOk, OnOk};
-ghost use Rattle.rip_run.specs.Texts.{report_text, flushing_line, usage_line, not_yet_line, line_ended, done_line};
+ghost use Rattle.rip_run.specs.Texts.{report_text, usage_line, not_yet_line, too_large_line, too_many_line, line_ended, done_line};
 
 use itoa::Buffer;
 use ps_objects::{NoMemory, Text};
@@ -19,6 +19,24 @@ pub(crate) fn not_yet_line() -> &'static [u8]
     ensures { result.now ≡ not_yet_line }
 {
     b"%%[ job refused: not yet ]%%\n"
+}
+
+/// The line for a job of more bytes than are taken.
+pub(crate) fn too_large_line() -> &'static [u8]
+    ensures { result.now ≡ too_large_line }
+{
+    b"%%[ job refused: too large ]%%\n"
+}
+
+/// Appends the line for a job of so many pages, which are more than are taken.
+pub(crate) fn refuse_pages(text: &mut Text, count: u32) -> Result<(), NoMemory>
+    ensures { OnOk result (text.new ≡ text.old ++ too_many_line count) }
+{
+    let mut buffer = Buffer::new();
+    text.extend(b"%%[ job refused: ")?;
+    text.extend(buffer.format(count).as_bytes())?;
+    text.extend(b" pages ]%%\n")?;
+    Ok(())
 }
 
 /// Ends the text's last line, where it is open.

@@ -41,14 +41,17 @@ impl Word {
 pub(crate) enum Command {
     /// All sections in sequence on one memory.
     Plain,
+    /// A line for each section.
+    Split,
 }
 
-/// The command of the words, where they are in the grammar: the one word `plain`.
+/// The command of the words, where they are in the grammar: the one word `plain` or `split`.
 pub(crate) fn command_of(words: &[Word]) -> Option<Command>
     ensures { result ≡ command_of words.now }
 {
     match words {
         [word] if word.as_slice() == b"plain".as_slice() => Some(Command::Plain),
+        [word] if word.as_slice() == b"split".as_slice() => Some(Command::Split),
         _ => None,
     }
 }
