@@ -4,6 +4,8 @@
 mod characters;
 mod numbers;
 mod simple_texts;
+#[cfg(test)]
+mod tests;
 mod tokens;
 
 pub use simple_texts::simple;
