@@ -71,7 +71,7 @@ nothing_appended bytes None = (0, omega arith, refl)
 nothing_appended bytes (Some before) = (0, omega arith, ap Some (sym (append-nil before)))
 
 pub run_status : (e : Ending) → status_of e ≢ status.Usage
-run_status (Stopped _ _) = cc
-run_status Through = cc
-run_status Quit = cc
-run_status Overflows = cc
+run_status (Stopped _ _) h = cc
+run_status Through h = cc
+run_status Quit h = cc
+run_status Overflows h = cc

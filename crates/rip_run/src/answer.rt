@@ -25,7 +25,12 @@ use std::alloc::Global;
 const MAX_BYTES: usize = 268_435_456;
 
 /// Reads the job and writes the command's result on the back channel.
-#[tactic(auto, using(crate::proofs::Answering::of_too_large, crate::proofs::Answering::of_read, crate::proofs::Answering::nothing_appended))]
+#[tactic(auto, using(
+    crate::proofs::Answering::of_too_large,
+    crate::proofs::Answering::of_read,
+    crate::proofs::Answering::nothing_appended,
+    crate::proofs::Sinks::read_back
+))]
 pub(crate) fn answer<S: Source, B: Sink>(
     alloc: Global,
     command: Command,
@@ -108,6 +113,7 @@ fn prolog_text<'a>(job: &'a [u8], sections: &Sections) -> &'a [u8]
 }
 
 /// A line for each section.
+#[tactic(auto, using(crate::proofs::Pieces::listed))]
 fn list_sections(alloc: Global, sections: &[Section]) -> Result<Reply, NoMemory>
     ensures text { IfOk result (λ answer. answer.text ≡ flat_map section_line sections.now) }
     ensures status { IfOk result (λ answer. answer.status ≡ Done 0) }
@@ -124,13 +130,7 @@ fn list_sections(alloc: Global, sections: &[Section]) -> Result<Reply, NoMemory>
 }
 
 /// The answer to a prolog's text.
-#[tactic(auto, using(
-    crate::proofs::Answering::of_not_simple,
-    crate::proofs::Answering::of_overflow,
-    crate::proofs::Answering::of_run,
-    crate::proofs::Answering::defined_status,
-    crate::proofs::Answering::run_status
-))]
+#[tactic(auto, using(crate::proofs::Answering::of_not_simple, crate::proofs::Answering::of_overflow, crate::proofs::Answering::of_run, crate::proofs::Answering::defined_status, crate::proofs::Answering::run_status))]
 fn run_prolog(alloc: Global, prolog: &[u8]) -> Result<Reply, NoMemory>
     ensures text { IfOk result (λ answer. answer.text ≡ (plain_result prolog.now).back) }
     ensures status { IfOk result (λ answer. answer.status ≡ (plain_result prolog.now).status) }

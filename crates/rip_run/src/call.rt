@@ -22,6 +22,7 @@ use std::alloc::Global;
 /// The words are the one word `plain` or `split`. The job is read to its end before anything is done with it; one of
 /// more than 268,435,456 bytes is refused as soon as they are passed, and one of more than 100,000 pages before any is
 /// run. Where memory runs out or a sink fails, each sink holds a front of the bytes that it would have been given.
+#[tactic(auto, using(crate::proofs::Sinks::pages_kept))]
 pub fn rip_plain<S: Source, P: Sink, B: Sink>(
     alloc: Global,
     words: &[Word],

@@ -82,11 +82,7 @@ fn execute(
 }
 
 /// Pushes a number, if there is room.
-fn push_number(
-    alloc: Global,
-    n: i32,
-    stack: &mut Operands,
-) -> Result<Option<Ending>, NoMemory>
+fn push_number(alloc: Global, n: i32, stack: &mut Operands) -> Result<Option<Ending>, NoMemory>
     ensures { IfOk result (λ ending. Steps (step_of_number n stack.old) ending stack.new [] []) }
 {
     if stack.is_full() {
@@ -126,13 +122,14 @@ fn execute_name(
 }
 
 /// Prints a number on a line of its own, if the section's messages have room for it.
+#[tactic(auto, using(crate::proofs::Pieces::line_fits, crate::proofs::Pieces::line_exceeds, crate::proofs::Pieces::two_pieces))]
 fn print_line(said: &mut Text, n: i32) -> Result<bool, NoMemory>
     ensures room { IfOk result (λ printed. printed ≡ has_room (length said.old) (number_line n)) }
     ensures said { IfOk result (λ printed. said.new ≡ (if printed then said.old ++ number_line n else said.old)) }
 {
     let mut buffer = Buffer::new();
     let digits = buffer.format(n).as_bytes();
-    if said.len() + digits.len() + 1 > MESSAGE_LIMIT {
+    if digits.len() >= MESSAGE_LIMIT.saturating_sub(said.len()) {
         return Ok(false);
     }
     said.extend(digits)?;
