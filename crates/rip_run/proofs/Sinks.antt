@@ -45,8 +45,8 @@ no_pages : (command : Command) (job : List ℕ) → (result_of_command command j
 no_pages command job =
     let count = page_count (sections_of job) in
     no_pages_of_choice (is_too_large job) (told too_large_line status.TooLarge) (result_of_read command job) refl
-      (no_pages_of_choice (is_too_many count) (told (too_many_line count) (status.TooManyPages count))
-        (result_of_sections command job (sections_of job)) refl (no_pages_of_sections command job))
+    (no_pages_of_choice (is_too_many count) (told (too_many_line count) (status.TooManyPages count))
+    (result_of_sections command job (sections_of job)) refl (no_pages_of_sections command job))
 
 appended_none : (held : Option (List ℕ)) → Appends [] held held
 appended_none None = refl

@@ -25,12 +25,7 @@ use std::alloc::Global;
 const MAX_BYTES: usize = 268_435_456;
 
 /// Reads the job and writes the command's result on the back channel.
-#[tactic(auto, using(
-    crate::proofs::Answering::of_too_large,
-    crate::proofs::Answering::of_read,
-    crate::proofs::Answering::nothing_appended,
-    crate::proofs::Sinks::read_back
-))]
+#[tactic(auto, using(crate::proofs::Answering::of_too_large, crate::proofs::Answering::of_read, crate::proofs::Answering::nothing_appended, crate::proofs::Sinks::read_back))]
 pub(crate) fn answer<S: Source, B: Sink>(
     alloc: Global,
     command: Command,

@@ -1,6 +1,6 @@
 use crate::{Status, Word, rip_plain};
 use ps_objects::NoMemory;
-use rip_ports::{MemSink, MemSource};
+use rip_ports::{Failed, MemSink, MemSource, Source};
 use std::alloc::Global;
 
 const DONE: &str = "%%[ done: 0 shown ]%%\n";
@@ -24,6 +24,27 @@ struct Ended {
     status: Status,
     pages: MemSink,
     back: MemSink,
+}
+
+/// Gives so many spaces, and doesn't tell how many are left.
+#[derive(Drop)]
+struct Spaces {
+    left: u64,
+}
+
+impl Source for Spaces {
+    ghost use Rattle.std.specs.Prelude.{None};
+
+    ghost left = { λ _. None };
+
+    ghost faults = { λ _. 0 };
+
+    fn take(&mut self, into: &mut [u8]) -> Result<usize, Failed> {
+        let count = (into.len() as u64).min(self.left);
+        into[..count as usize].fill(b' ');
+        self.left -= count;
+        Ok(count as usize)
+    }
 }
 
 /// Calls with a source and sinks in memory that fail at these calls.
@@ -81,7 +102,8 @@ fn answers_jobs(rt: HostRuntime) -> Result<(), NoMemory> {
         ("2147483647 1 add", Status::NotYet, NOT_YET),
         ("-2147483648 1 sub", Status::NotYet, NOT_YET),
         ("(a) =", Status::NotYet, NOT_YET),
-        ("1 \u{4}", Status::NotYet, NOT_YET),
+        ("\u{4}1 =\n\u{4}", done, "1\n%%[ done: 0 shown ]%%\n"),
+        ("1 \u{4} 2", Status::NotYet, NOT_YET),
         ("1.5", Status::NotYet, NOT_YET),
         ("16#FF", Status::NotYet, NOT_YET),
         ("2147483648", Status::NotYet, NOT_YET),
@@ -96,10 +118,10 @@ fn answers_jobs(rt: HostRuntime) -> Result<(), NoMemory> {
 }
 
 #[test]
-fn answers_words_lengths_and_faults(rt: HostRuntime) -> Result<(), NoMemory> {
+fn answers_words_and_faults(rt: HostRuntime) -> Result<(), NoMemory> {
     let alloc = rt.alloc();
     for words in [
-        ["split"].as_slice(),
+        ["render"].as_slice(),
         [].as_slice(),
         ["plain", "plain"].as_slice(),
     ] {
@@ -107,13 +129,6 @@ fn answers_words_lengths_and_faults(rt: HostRuntime) -> Result<(), NoMemory> {
         assert_eq!(rt; call.status, Status::Usage);
         assert_eq!(rt; call.back.bytes(), USAGE.as_bytes());
     }
-
-    let mut spaces = vec![in alloc; b' '; 8192]?;
-    let call_at_most = call(alloc, &["plain"], spaces.as_slice(), &[], &[])?;
-    assert_eq!(rt; call_at_most.status, Status::Done { reruns: 0 });
-    spaces.push(b' ')?;
-    let call_past = call(alloc, &["plain"], spaces.as_slice(), &[], &[])?;
-    assert_eq!(rt; call_past.status, Status::NotYet);
 
     for number in [1, 2] {
         let unread = call(alloc, &["plain"], b"1 =", &[number], &[])?;
@@ -129,12 +144,69 @@ fn answers_words_lengths_and_faults(rt: HostRuntime) -> Result<(), NoMemory> {
         (Status::Done { reruns: 3 }, 0),
         (Status::JobError { reruns: 0 }, 1),
         (Status::Usage, 2),
+        (Status::TooLarge, 3),
+        (Status::TooManyPages { count: 100_001 }, 3),
         (Status::ReadFault, 4),
         (Status::WriteFault, 5),
         (Status::NoMemory, 6),
         (Status::NotYet, 7),
     ] {
         assert_eq!(rt; status.exit(), exit);
+    }
+    Ok(())
+}
+
+#[test]
+fn splits_jobs(rt: HostRuntime) -> Result<(), NoMemory> {
+    let alloc = rt.alloc();
+    let job =
+        b"%!PS-Adobe-3.0\n%%EndProlog\n%%Page: 1 1\n%%BeginDocument: in.eps\n%%Page: 1 1\n%%EndDocument\n%%BeginData: 11 ASCII Bytes\n%%Page: x 9\n%%EndData\nshowpage\n%%Page: 2 2\n(cut\n%%Trailer\n";
+    let list = "1 prolog 0 27\n2 setup 27 0\n3 page 27 121\n4 page 148 17\n5 trailer 165 10\n";
+    let split = call(alloc, &["split"], job, &[], &[])?;
+    assert_eq!(rt; split.status, Status::Done { reruns: 0 });
+    assert_eq!(rt; split.back.bytes(), list.as_bytes());
+
+    let mut pages = Vec::from_slice(alloc, b"%!PS-Adobe-3.0\n")?;
+    for _ in 0..100_001 {
+        pages.extend_from_slice(b"%%Page:\n")?;
+    }
+    for command in ["plain", "split"] {
+        let refused = call(alloc, &[command], pages.as_slice(), &[], &[])?;
+        assert_eq!(rt; refused.status, Status::TooManyPages { count: 100_001 });
+        assert_eq!(rt;
+            refused.back.bytes(),
+            b"%%[ job refused: 100001 pages ]%%\n".as_slice()
+        );
+    }
+    Ok(())
+}
+
+#[test]
+fn refuses_large_jobs(rt: HostRuntime) -> Result<(), NoMemory> {
+    let alloc = rt.alloc();
+    for (left, status, back) in [
+        (268_435_456, Status::Done { reruns: 0 }, DONE),
+        (
+            268_435_457,
+            Status::TooLarge,
+            "%%[ job refused: too large ]%%\n",
+        ),
+    ] {
+        let mut pages = MemSink::new(alloc, 1000, Vec::new(alloc))?;
+        let mut sink = MemSink::new(alloc, 1000, Vec::new(alloc))?;
+        let mut words = Vec::new(alloc);
+        words.push(Word::from_text(alloc, "plain")?)?;
+        let mut source = Spaces { left };
+        let answer = rip_plain(
+            alloc,
+            words.as_slice(),
+            0,
+            &mut source,
+            &mut pages,
+            &mut sink,
+        );
+        assert_eq!(rt; answer, status);
+        assert_eq!(rt; sink.bytes(), back.as_bytes());
     }
     Ok(())
 }
