@@ -29,6 +29,14 @@ IsRun (status.Done _) = Unit {0}
 IsRun (status.JobError _) = Unit {0}
 IsRun _ = ⊥
 
+-- the answer comes after the job was read to its end
+abbrev pub IsAfterReading : Status → Type 0
+IsAfterReading (status.Done _) = Unit {0}
+IsAfterReading (status.JobError _) = Unit {0}
+IsAfterReading (status.TooManyPages _) = Unit {0}
+IsAfterReading status.NotYet = Unit {0}
+IsAfterReading _ = ⊥
+
 -- the job was run to its end, or memory ran out
 abbrev pub IsRunOrWanting : Status → Type 0
 IsRunOrWanting status.NoMemory = Unit {0}

@@ -6,7 +6,7 @@ ghost use Rattle.ps_scan.specs.Simple.{is_plain};
 ghost use Rattle.rip_run.specs.Job.{command_text, is_overflow, plain_result, prolog_text, report_of, result_of_command, result_of_read, result_of_run, status_of};
 ghost use Rattle.rip_run.specs.Reading.{IsAtEnd};
 ghost use Rattle.rip_run.specs.Section.{run_of};
-ghost use Rattle.rip_run.specs.Status.{IsDefined, IsRun, Writes};
+ghost use Rattle.rip_run.specs.Status.{IsAfterReading, IsDefined, Writes};
 ghost use Rattle.rip_run.specs.Texts.{not_yet_line, section_line};
 ghost use Rattle.rip_run.specs.declared.status.Status.TheVariants.{Done, NotYet, ReadFault, Usage, WriteFault};
 
@@ -34,7 +34,7 @@ pub(crate) fn answer<S: Source, B: Sink>(
 ) -> Status
     ensures status { IfSome (S.left source.old) (λ job. IsDefined result → result ≡ (result_of_command command job).status) }
     ensures back { IfSome (S.left source.old) (λ job. Writes result (result_of_command command job).back (B.holds back.old) (B.holds back.new)) }
-    ensures read { IsRun result → IsAtEnd (S.left source.new) }
+    ensures read { IsAfterReading result → IsAtEnd (S.left source.new) }
     ensures read_fault { result ≡ ReadFault → HasRisen (S.faults source.old) (S.faults source.new) }
     ensures write_fault { result ≡ WriteFault → HasRisen (B.faults back.old) (B.faults back.new) }
     ensures words { result ≢ Usage }

@@ -3,7 +3,7 @@ ghost use Rattle.std.specs.Prelude.{◌≡◌, ◌<◌, ◌⊎◌, List, ℕ, le
 ghost use Rattle.rip_ports.specs.Ports.{Appends, HasRisen};
 ghost use Rattle.rip_run.specs.Job.{is_refused, job_result};
 ghost use Rattle.rip_run.specs.Reading.{IsAtEnd};
-ghost use Rattle.rip_run.specs.Status.{IsDefined, IsRefusal, IsRun, IsRunOrWanting, Writes};
+ghost use Rattle.rip_run.specs.Status.{IsAfterReading, IsDefined, IsRefusal, IsRunOrWanting, Writes};
 ghost use Rattle.rip_run.specs.Texts.{usage_line};
 ghost use Rattle.rip_run.specs.Words.{command_of};
 ghost use Rattle.rip_run.specs.declared.status.Status.TheVariants.{ReadFault, TooLarge, TooManyPages, Usage, WriteFault};
@@ -38,8 +38,8 @@ pub fn rip_plain<S: Source, P: Sink, B: Sink>(
     ensures back { IfSome (S.left source.old) (λ job.
         Writes result (job_result words.now moment job).back (B.holds back.old) (B.holds back.new)) }
 
-    // A job that was run was read to its end.
-    ensures read { IsRun result → IsAtEnd (S.left source.new) }
+    // A job that was run, or refused for its pages or as not interpreted yet, was read to its end.
+    ensures read { IsAfterReading result → IsAtEnd (S.left source.new) }
 
     // Words outside the grammar are refused before anything is read, and no others are.
     ensures usage { result ≡ Usage → IsNone (command_of words.now) × (source.new ≡ source.old) × (pages.new ≡ pages.old)
