@@ -103,6 +103,7 @@ fn operators_have_names(rt: HostRuntime) -> Result<(), Fail> {
     for n in 0..4 {
         operands.push(literal(Kind::Integer(n)))?;
     }
+    assert!(rt; operands.len() == 4);
     operands.roll(3, 1);
     assert!(rt; operands.integer(0) == Ok(2));
     operands.exchange();
