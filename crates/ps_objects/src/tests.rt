@@ -106,8 +106,10 @@ fn operators_have_names(rt: HostRuntime) -> Result<(), Fail> {
     assert!(rt; operands.len() == 4);
     operands.roll(3, 1);
     assert!(rt; operands.integer(0) == Ok(2));
+    assert!(rt; operands.len() == 4);
     operands.exchange();
     assert!(rt; operands.integer(1) == Ok(2));
+    assert!(rt; operands.len() == 4);
     operands.shrink(3);
     assert!(rt; operands.need(2) == Err(ErrorName::StackUnderflow));
     assert!(rt; operands.pop().is_some());
