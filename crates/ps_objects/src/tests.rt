@@ -103,10 +103,13 @@ fn operators_have_names(rt: HostRuntime) -> Result<(), Fail> {
     for n in 0..4 {
         operands.push(literal(Kind::Integer(n)))?;
     }
+    assert!(rt; operands.len() == 4);
     operands.roll(3, 1);
     assert!(rt; operands.integer(0) == Ok(2));
+    assert!(rt; operands.len() == 4);
     operands.exchange();
     assert!(rt; operands.integer(1) == Ok(2));
+    assert!(rt; operands.len() == 4);
     operands.shrink(3);
     assert!(rt; operands.need(2) == Err(ErrorName::StackUnderflow));
     assert!(rt; operands.pop().is_some());
