@@ -1,0 +1,6 @@
+pub mod Order
+pub mod Memory
+pub mod Tree
+pub mod Ownership
+pub mod Frame
+pub mod Writes
