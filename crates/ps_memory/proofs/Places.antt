@@ -1,5 +1,5 @@
 -- What each action does at each place.
-use Rattle.std.proofs.Common.{◌≡◌, ℕ, zero, suc, Bool, true, false, cond, ◌&&◌, not, List, [], ◌∷◌, Option, Some, None, refl, sym, ap, ◌∙◌, subst, nat_eq, nat_lt, slice_get, slice_set, length, eqb-true, true≢false, inl, inr, ◌⊎◌, replicate}
+use Rattle.std.proofs.Common.{◌≡◌, ℕ, zero, suc, Bool, true, false, cond, ◌&&◌, not, List, [], ◌∷◌, Option, Some, None, refl, sym, ap, ◌∙◌, subst, nat_eq, slice_get, slice_set, length, eqb-true, true≢false, inl, inr, ◌⊎◌, replicate}
 use Rattle.std.proofs.lemmas.Bool.{eqb-false}
 use Rattle.std.specs.Ordering.{is_eq}
 use Rattle.std.specs.Cmp.{first_so, second_so}
@@ -13,7 +13,7 @@ use Rattle.ps_objects.specs.declared.place.Value.TheVariants as value
 use Rattle.ps_objects.specs.declared.place.Shape.{Shape}
 use Rattle.ps_objects.specs.declared.place.Shape.TheVariants as shape
 use Rattle.ps_memory.specs.Order.{cell_cmp, key_cmp}
-use Rattle.ps_memory.specs.Memory.{is_global, newer, Content, dictionary, items, characters, Cells, Memory, Slot, entry, access, item, whole, Spot, held, byte, rand, paper, Found, is, shaped, object_found, byte_found, page_found, in_content, in_string, part, at, put_entry, put_access, put_item, put_content, put_byte, put_cell, with_part, do_store, content_of, new_bytes, do_fresh, put_back}
+use Rattle.ps_memory.specs.Memory.{is_global, newer, Content, dictionary, items, characters, Cells, Memory, Slot, entry, access, item, whole, Spot, held, byte, rand, paper, Found, is, shaped, object_found, byte_found, page_found, in_content, in_string, part, at, put_entry, put_item, put_content, put_byte, put_cell, with_part, do_store, content_of, new_bytes, do_fresh, put_back}
 use Rattle.ps_memory.specs.Ownership.{same_cell, same_slot, same_spot, in_cell}
 use Rattle.ps_memory.proofs.Order.{cells_total, keys_total, cell_is, cell_itself, key_is}
 
@@ -59,14 +59,14 @@ part_strings c f M = go (is_global c)
     go true = refl
     go false = refl
 
-part_rand : (c : Cell) (f : Cells → Cells) (M : Memory) → (with_part M c f).rand ≡ M.rand
+pub part_rand : (c : Cell) (f : Cells → Cells) (M : Memory) → (with_part M c f).rand ≡ M.rand
 part_rand c f M = go (is_global c)
   where
     go : (x : Bool) → (cond x (record M { globals = f M.globals }) (record M { locals = f M.locals })).rand ≡ M.rand
     go true = refl
     go false = refl
 
-part_page : (c : Cell) (f : Cells → Cells) (M : Memory) → (with_part M c f).page ≡ M.page
+pub part_page : (c : Cell) (f : Cells → Cells) (M : Memory) → (with_part M c f).page ≡ M.page
 part_page c f M = go (is_global c)
   where
     go : (x : Bool) → (cond x (record M { globals = f M.globals }) (record M { locals = f M.locals })).page ≡ M.page

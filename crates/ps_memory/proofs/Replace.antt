@@ -1,5 +1,5 @@
 -- A store commutes with what is done elsewhere, and takes the place of an earlier store.
-use Rattle.std.proofs.Common.{◌≡◌, ℕ, zero, suc, Bool, true, false, cond, not, ◌&&◌, List, [], ◌∷◌, Option, Some, None, option_map, refl, sym, ap, ◌∙◌, subst, true≢false, nat_eq, nat_lt, slice_set, inl, inr, ◌⊎◌, replicate}
+use Rattle.std.proofs.Common.{◌≡◌, ℕ, zero, suc, Bool, true, false, cond, ◌&&◌, List, [], ◌∷◌, Option, Some, None, option_map, refl, sym, ap, ◌∙◌, subst, true≢false, nat_eq, nat_lt, slice_set, replicate}
 use Rattle.std.proofs.lemmas.Bool.{eqb-false}
 use Rattle.std.specs.Bool.{⊤}
 use Rattle.std.specs.Ordering.{eq_by_cmp}
@@ -15,12 +15,12 @@ use Rattle.ps_objects.specs.declared.place.Value.TheVariants as value
 use Rattle.ps_objects.specs.declared.place.Shape.{Shape}
 use Rattle.ps_objects.specs.declared.place.Shape.TheVariants as shape
 use Rattle.ps_memory.specs.Order.{cell_cmp, key_cmp}
-use Rattle.ps_memory.specs.Memory.{is_global, newer, Content, dictionary, items, characters, Cells, Memory, Slot, entry, access, item, whole, Spot, held, byte, rand, paper, spot_of, is, at, part, shape_in, is_slot, is_byte, is_place, is_kind, Action, store, fresh, save, restore, tell, put_entry, put_item, put_content, put_byte, put_cell, with_part, do_store, content_of, new_bytes, do_fresh, perform}
+use Rattle.ps_memory.specs.Memory.{is_global, newer, Content, dictionary, items, characters, Cells, Memory, Slot, entry, access, item, whole, Spot, held, byte, rand, paper, spot_of, part, shape_in, is_slot, is_byte, is_place, is_kind, Action, store, fresh, save, restore, tell, put_entry, put_item, put_content, put_byte, put_cell, with_part, do_store, content_of, new_bytes, do_fresh, perform}
 use Rattle.ps_memory.specs.Ownership.{same_cell, same_slot, same_spot, in_cell}
 use Rattle.ps_memory.specs.Frame.{later, Allowed}
 use Rattle.ps_memory.specs.Writes.{apply, is_write, Applicable, outlives, replaced, note, ReplacingLaw}
 use Rattle.ps_memory.proofs.Order.{cells_total, cells_antisymmetric, keys_total, keys_antisymmetric, cell_is, cell_itself, key_is}
-use Rattle.ps_memory.proofs.Places.{spot_is, part_other, part_strings, mapped, put_at, insert_other, length_put, length_set, either_false, string_fresh_other, store_other}
+use Rattle.ps_memory.proofs.Places.{spot_is, part_other, part_strings, mapped, put_at, insert_other, length_put, length_set, string_fresh_other, store_other}
 use Rattle.ps_memory.proofs.Stored.{held_store, no_shape}
 use Rattle.ps_memory.proofs.Frame.{kept_store}
 
@@ -207,9 +207,9 @@ parts_swap c d F G M h = go (is_global c) (is_global d)
   where
     go : (x y : Bool)
         → cond x (record (cond y (record M { globals = G M.globals }) (record M { locals = G M.locals })) { globals = F (cond y (record M { globals = G M.globals }) (record M { locals = G M.locals })).globals })
-          (record (cond y (record M { globals = G M.globals }) (record M { locals = G M.locals })) { locals = F (cond y (record M { globals = G M.globals }) (record M { locals = G M.locals })).locals })
+        (record (cond y (record M { globals = G M.globals }) (record M { locals = G M.locals })) { locals = F (cond y (record M { globals = G M.globals }) (record M { locals = G M.locals })).locals })
         ≡ cond y (record (cond x (record M { globals = F M.globals }) (record M { locals = F M.locals })) { globals = G (cond x (record M { globals = F M.globals }) (record M { locals = F M.locals })).globals })
-          (record (cond x (record M { globals = F M.globals }) (record M { locals = F M.locals })) { locals = G (cond x (record M { globals = F M.globals }) (record M { locals = F M.locals })).locals })
+        (record (cond x (record M { globals = F M.globals }) (record M { locals = F M.locals })) { locals = G (cond x (record M { globals = F M.globals }) (record M { locals = F M.locals })).locals })
     go true true = ap (λ m. record M { globals = m }) (h M.globals)
     go true false = refl
     go false true = refl
@@ -220,7 +220,7 @@ parts_over c F G M h = go (is_global c)
   where
     go : (x : Bool)
         → cond x (record (cond x (record M { globals = G M.globals }) (record M { locals = G M.locals })) { globals = F (cond x (record M { globals = G M.globals }) (record M { locals = G M.locals })).globals })
-          (record (cond x (record M { globals = G M.globals }) (record M { locals = G M.locals })) { locals = F (cond x (record M { globals = G M.globals }) (record M { locals = G M.locals })).locals })
+        (record (cond x (record M { globals = G M.globals }) (record M { locals = G M.locals })) { locals = F (cond x (record M { globals = G M.globals }) (record M { locals = G M.locals })).locals })
         ≡ cond x (record M { globals = F M.globals }) (record M { locals = F M.locals })
     go true = ap (λ m. record M { globals = m }) (h M.globals)
     go false = ap (λ m. record M { locals = m }) (h M.locals)
@@ -402,12 +402,14 @@ string_none paper v M c e = e
 
 pub allowed_store : (w : Action) (p : Spot) (v : Value) (M : Memory) → is_write w ≡ true → is_place M p ≡ true → Allowed w M → Allowed w (do_store p v M)
 allowed_store (store k u) p v M i h a = (place_store p (spot_of k) v M ∙ a.0, a.1)
-allowed_store (fresh c sh) p v M i h a =
-    (λ d x y. ap shape_in (store_other p (held d whole) v M (no_shape p M d h)) ∙ a.0 d x y,
-     λ g. subst (AllByRecursion (λ k. newer c k.0 ≡ true)) (sym (kept_store p v M)) (a.1 g))
-allowed_store (save s) p v M i h a =
-    (λ c n. (ap shape_in (store_other p (held c whole) v M (no_shape p M c h)) ∙ (a.0 c n).0, string_none p v M c (a.0 c n).1),
-     subst (AllByRecursion (λ k. later s k.0 ≡ true)) (sym (kept_store p v M)) a.1)
+allowed_store (fresh c sh) p v M i h a = (
+  λ d x y. ap shape_in (store_other p (held d whole) v M (no_shape p M d h)) ∙ a.0 d x y,
+  λ g. subst (AllByRecursion (λ k. newer c k.0 ≡ true)) (sym (kept_store p v M)) (a.1 g),
+)
+allowed_store (save s) p v M i h a = (
+  λ c n. (ap shape_in (store_other p (held c whole) v M (no_shape p M c h)) ∙ (a.0 c n).0, string_none p v M c (a.0 c n).1),
+  subst (AllByRecursion (λ k. later s k.0 ≡ true)) (sym (kept_store p v M)) a.1,
+)
 allowed_store (restore s) p v M i h a = absurd (true≢false (sym i))
 allowed_store (tell o) p v M i h a = absurd (true≢false (sym i))
 

@@ -1,10 +1,9 @@
 -- A store reaches its place, and changes which places are there nowhere.
 use Rattle.std.proofs.Common.{◌≡◌, ℕ, zero, suc, ◌<◌, Bool, true, false, cond, ◌&&◌, List, [], ◌∷◌, Option, Some, None, refl, sym, ap, ◌∙◌, nat_lt, slice_get, slice_set, length, true≢false, arith}
-use Rattle.std.specs.FinMap.{FinMap, get, get-insert, get-remove}
+use Rattle.std.specs.FinMap.{get, get-insert, get-remove}
 use Rattle.ps_objects.specs.declared.cell.Cell.{Cell}
 use Rattle.ps_objects.specs.declared.place.Value.{Value}
 use Rattle.ps_objects.specs.declared.place.Value.TheVariants as value
-use Rattle.ps_memory.specs.Order.{key_cmp}
 use Rattle.ps_memory.specs.Memory.{Content, dictionary, items, characters, Memory, Slot, entry, access, item, whole, Spot, held, byte, rand, paper, is, object_found, byte_found, in_content, in_string, part, at, is_slot, is_byte, is_place, is_kind, put_content, put_byte, put_cell, do_store}
 use Rattle.ps_memory.specs.Ownership.{same_cell, same_spot}
 use Rattle.ps_memory.proofs.Order.{keys_total, key_itself, cell_itself}
@@ -13,7 +12,7 @@ use Rattle.ps_memory.proofs.Places.{mapped, put_at, part_here}
 below : (i n : ℕ) → nat_lt i n ≡ true → i < n
 below i n h = grind arith
 
-item_here : {X : Type 0} (xs : List X) (i : ℕ) (x : X) → i < length xs → slice_get (slice_set xs i x) i ≡ Some x
+pub item_here : {X : Type 0} (xs : List X) (i : ℕ) (x : X) → i < length xs → slice_get (slice_set xs i x) i ≡ Some x
 item_here [] i x h = absurd (omega arith)
 item_here (y ∷ ys) zero x h = refl
 item_here (y ∷ ys) (suc i) x h = item_here ys i x (omega (arith, h))

@@ -1,6 +1,5 @@
 -- To restore a save among the writes is to leave out what doesn't outlive it.
 use Rattle.std.proofs.Common.{◌≡◌, ℕ, Bool, true, false, cond, not, ◌&&◌, List, [], ◌∷◌, Option, Some, None, refl, sym, ap, ◌∙◌, subst, true≢false, replicate}
-use Rattle.std.specs.Bool.{⊤}
 use Rattle.std.specs.Ordering.{is_gt, ordering_then, nat_cmp}
 use Rattle.std.specs.List.{AllByRecursion}
 use Rattle.std.specs.FinMap.{FinMap, get, insert, remove, retain_keys, get-insert, get-remove, same_map}
@@ -10,9 +9,9 @@ use Rattle.ps_objects.specs.declared.place.Value.{Value}
 use Rattle.ps_objects.specs.declared.place.Shape.{Shape}
 use Rattle.ps_objects.specs.declared.place.Shape.TheVariants as shape
 use Rattle.ps_memory.specs.Order.{cell_cmp}
-use Rattle.ps_memory.specs.Memory.{is_global, newer, same_save, Content, dictionary, items, characters, Cells, Memory, Slot, whole, Spot, held, byte, rand, paper, spot_of, in_content, at, part, shape_in, shape_at, is_slot, is_byte, is_place, Action, store, fresh, save, restore, tell, put_content, put_byte, put_cell, do_store, content_of, new_bytes, do_fresh, copy_named, older_than, put_back, perform}
+use Rattle.ps_memory.specs.Memory.{is_global, newer, same_save, Content, dictionary, items, characters, Cells, Memory, whole, Spot, held, byte, rand, paper, spot_of, in_content, shape_in, is_slot, is_byte, is_place, Action, store, fresh, save, restore, tell, put_content, put_byte, put_cell, do_store, content_of, new_bytes, do_fresh, copy_named, older_than, put_back, perform}
 use Rattle.ps_memory.specs.Ownership.{same_cell}
-use Rattle.ps_memory.specs.Frame.{Allowed, IsUnused}
+use Rattle.ps_memory.specs.Frame.{IsUnused}
 use Rattle.ps_memory.specs.Writes.{apply, Applicable, outlives, undo}
 use Rattle.ps_memory.proofs.Order.{cells_total, cells_antisymmetric, cell_is}
 use Rattle.ps_memory.proofs.Places.{string_kept, put_other, put_at, mapped, string_fresh_other, restored}

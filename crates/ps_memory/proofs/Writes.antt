@@ -1,5 +1,5 @@
 -- The writes of a run do what its trail does.
-use Rattle.std.proofs.Common.{◌≡◌, Bool, true, false, cond, List, [], ◌∷◌, Option, Some, None, refl, sym, ap, ◌∙◌, subst}
+use Rattle.std.proofs.Common.{◌≡◌, Bool, true, false, cond, List, [], ◌∷◌, Some, None, refl, sym, ap, ◌∙◌, subst}
 use Rattle.std.specs.Bool.{⊤}
 use Rattle.ps_objects.specs.declared.cell.SaveName.{SaveName}
 use Rattle.ps_memory.specs.Memory.{is_global, same_save, Spot, spot_of, Memory, value_at, shape_of, Action, store, fresh, save, restore, tell, perform}
@@ -9,7 +9,7 @@ use Rattle.ps_memory.specs.Frame.{Allowed, Safe}
 use Rattle.ps_memory.specs.Writes.{apply, Applicable, outlives, undo, note, writes_from, CertificateLaw}
 use Rattle.ps_memory.proofs.Frame.{frame_law}
 use Rattle.ps_memory.proofs.Undo.{is_open, undone, applicable_undo}
-use Rattle.ps_memory.proofs.Replace.{saves_in, Does, noted_store}
+use Rattle.ps_memory.proofs.Replace.{saves_in, noted_store}
 
 -- each action of a trail is allowed where it is done
 Allows : List Step → Memory → Type 0

@@ -1,11 +1,10 @@
 -- The frame law: what a run doesn't look at doesn't matter to it.
-use Rattle.std.specs.Prelude.{◌≡◌, ◌≢◌, Bool, true, false, ◌&&◌, Option, None, ⊤}
+use Rattle.std.specs.Prelude.{◌≡◌, ◌≢◌, Bool, true, false, None, ⊤}
 use Rattle.std.specs.Ordering.{nat_cmp, is_gt, ordering_then}
 use Rattle.std.specs.FinMap.{get}
 use Rattle.std.specs.List.{AllByRecursion}
 use Rattle.ps_objects.specs.declared.cell.Cell.{Cell}
 use Rattle.ps_objects.specs.declared.cell.SaveName.{SaveName}
-use Rattle.ps_objects.specs.declared.place.Shape.{Shape}
 use Rattle.ps_memory.specs.Memory.{is_global, newer, spot_of, Memory, value_at, shape_at, shape_of, is_place, is_kind, Action, store, fresh, save, restore, tell, copy_named, perform}
 use Rattle.ps_memory.specs.Tree.{Tree, ends, looks, acts, asks, result, trail, after, play}
 use Rattle.ps_memory.specs.Ownership.{looked, outer}

@@ -1,5 +1,5 @@
 -- Memory: what each cell holds, the bytes of strings, the state of the random numbers, the paper, and the kept copies.
-use Rattle.std.specs.Prelude.{ℕ, Bool, true, false, cond, ◌&&◌, not, List, [], ◌∷◌, Option, Some, None, is_some, slice_get, slice_set, length, nat_eq, nat_lt, replicate}
+use Rattle.std.specs.Prelude.{ℕ, Bool, true, false, cond, ◌&&◌, not, List, [], ◌∷◌, Option, Some, None, slice_get, slice_set, length, nat_eq, nat_lt, replicate}
 use Rattle.std.specs.Ordering.{nat_cmp, is_gt, ordering_then}
 use Rattle.std.specs.FinMap.{FinMap, get, insert, remove, retain_keys, empty, keys as keys_in}
 use Rattle.ps_shapes.specs.Sheet.{Sheet, drawn}
