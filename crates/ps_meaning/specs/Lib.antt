@@ -1,2 +1,4 @@
 pub mod Fits
 pub mod Sound
+pub mod Registers
+pub mod Kin

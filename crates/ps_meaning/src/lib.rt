@@ -1,9 +1,15 @@
 //! Sound states, and what keeps them sound.
 #![tactic(auto)]
 
+ghost use Rattle.ps_meaning.specs.Kin.{KinLaw};
 ghost use Rattle.ps_meaning.specs.Sound.{SoundnessLaw};
 
 /// A lawful run on a sound memory does only what is allowed, and leaves a sound memory.
 pub fn soundness_law<A>()
     ensures { SoundnessLaw A }
+{}
+
+/// What stands both before some sections and after them has one shape.
+pub fn kin_law()
+    ensures { KinLaw }
 {}
