@@ -6,3 +6,4 @@ pub mod Frame
 pub mod Undo
 pub mod Replace
 pub mod Writes
+pub mod Track

@@ -4,3 +4,4 @@ pub mod Tree
 pub mod Ownership
 pub mod Frame
 pub mod Writes
+pub mod Track

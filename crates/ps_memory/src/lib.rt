@@ -4,6 +4,7 @@
 ghost use Rattle.std.specs.Prelude.{◌≡◌};
 ghost use Rattle.ps_memory.specs.Frame.{FrameLaw};
 ghost use Rattle.ps_memory.specs.Order.{cell_cmp, key_cmp};
+ghost use Rattle.ps_memory.specs.Track.{TrackLaw};
 ghost use Rattle.ps_memory.specs.Writes.{CertificateLaw, ReplacingLaw};
 
 use ps_objects::{Cell, Key};
@@ -28,4 +29,9 @@ pub fn certificate_law<A>()
 /// A store may take the place of an earlier one among the writes.
 pub fn replacing_law()
     ensures { ReplacingLaw }
+{}
+
+/// What is known of a run as it goes on, from its looks and actions alone, is what its trail tells.
+pub fn track_law<A>()
+    ensures { TrackLaw A }
 {}
