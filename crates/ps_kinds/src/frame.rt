@@ -1,6 +1,8 @@
 //! Frames.
+ghost use Rattle.std.specs.Prelude.{◌≡◌};
+ghost use Rattle.ps_kinds.specs.Frames.{frame_room};
 
-use crate::{Key, Matrix, Object, Path, Real, Sequence, Stack, Text};
+use crate::{ErrorName, Key, Matrix, Object, Path, Real, Sequence, Stack, Text};
 
 /// One running procedure, string, loop, `stopped`, show, image or path walk, with the objects that it keeps.
 #[derive(Drop)]
@@ -64,6 +66,20 @@ pub enum Frame {
 
 /// The execution stack, the newest frame first.
 pub type Frames = Stack<Frame>;
+
+/// The most frames.
+pub const FRAME_LIMIT: usize = 1000;
+
+/// Whether one more frame stays within the limit: execstackoverflow.
+pub fn room_for_frame(frames: &Frames) -> Result<(), ErrorName>
+    ensures { result ≡ frame_room frames.now }
+{
+    if frames.len() < FRAME_LIMIT {
+        Ok(())
+    } else {
+        Err(ErrorName::ExecStackOverflow)
+    }
+}
 
 /// A key and a value of a dictionary.
 #[derive(Drop)]

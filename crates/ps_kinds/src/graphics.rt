@@ -19,7 +19,7 @@ pub enum Colour {
 }
 
 /// The graphics state (section 4.2 of the language manual).
-#[derive(Drop)]
+#[derive(PartialEq, Eq, Drop)]
 pub struct GState {
     /// From user space to device space.
     pub ctm: Matrix,
@@ -98,7 +98,7 @@ impl GState {
 }
 
 /// A graphics state on the graphics stack. A base layer is what `save` or a glyph's beginning pushed.
-#[derive(Drop)]
+#[derive(PartialEq, Eq, Drop)]
 pub struct Layer {
     pub state: GState,
     pub base: bool,

@@ -7,16 +7,20 @@ mod graphics;
 mod ranges;
 mod regs;
 mod state;
+#[cfg(test)]
+mod tests;
 
 pub use act::Act;
 pub use frame::{
-    Frame, Frames, Glyph, ImageRun, Offset, Pair, PathWalk, Samples, ShowForm, ShowPhase, ShowRun,
+    FRAME_LIMIT, Frame, Frames, Glyph, ImageRun, Offset, Pair, PathWalk, Samples, ShowForm,
+    ShowPhase, ShowRun, room_for_frame,
 };
 pub use graphics::{Colour, GStack, GState, Layer};
 pub use ps_objects::{
     Access, Cell, DICT_STACK_LIMIT, DictStack, Duplicate, ErrorName, FIRST_DEFAULT_ENTRY, FileName,
-    Interval, Key, Keys, Kind, Loc, Name, Number, OPERAND_LIMIT, OPERATOR_COUNT, Object, Objects,
-    Op, Refusal, SaveName, SectionKind, Sequence, Settings, Shape, Space, Stack, Text, Value,
+    Interval, Key, KeyForm, Keys, Kind, Loc, NAME_LIMIT, Name, Number, OPERAND_LIMIT,
+    OPERATOR_COUNT, Object, Objects, Op, Refusal, SaveName, SectionKind, Sequence, Settings, Shape,
+    Space, Stack, Text, Value, op_name,
 };
 pub use ps_shapes::{
     Clip, Clips, DevicePoint, Matrix, NoMemory, Paper, Path, Point, Polygon, Polygons, Real, Rule,
@@ -24,4 +28,4 @@ pub use ps_shapes::{
 };
 pub use ranges::{Component, Lengths, LineCap, LineJoin, LineWidth, MiterLimit, PageSide};
 pub use regs::{Pages, Papers, RegField, Regs, SaveMark, Saves};
-pub use state::State;
+pub use state::{State, state_may_be_shared};

@@ -148,7 +148,7 @@ impl PageSide {
     }
 }
 
-/// How the ends of a line look (section 4.8.2 of the language manual).
+/// How the ends of a line look (section 4.5.1 of the language manual).
 #[derive(Clone, Copy, Debug, PartialEq, Eq)]
 pub enum LineCap {
     Butt,
@@ -156,7 +156,7 @@ pub enum LineCap {
     Square,
 }
 
-/// How the corners of a line look (section 4.8.2 of the language manual).
+/// How the corners of a line look (section 4.5.1 of the language manual).
 #[derive(Clone, Copy, Debug, PartialEq, Eq)]
 pub enum LineJoin {
     Miter,
@@ -217,4 +217,26 @@ impl Lengths {
             items: Vec::from_slice(*self.items.allocator(), self.items.as_slice())?,
         })
     }
+}
+
+impl PartialEq for Lengths {
+    ghost use Rattle.std.specs.Cmp.{partial_equiv_from_equiv};
+    ghost use Rattle.std.specs.Cmp.Lexicographic.{lists_equiv, pointwise};
+    ghost use Rattle.ps_shapes.specs.contracts.numbers.RealEq.TheImpl.Laws as laws;
+    ghost use Rattle.ps_shapes.specs.contracts.numbers.RealPartialEq.TheImpl as real;
+
+    ghost eq = { pointwise real.eq-value.it };
+
+    ghost laws = { partial_equiv_from_equiv (lists_equiv laws.laws-law) };
+
+    fn eq(&self, other: &Lengths) -> bool {
+        self.as_slice() == other.as_slice()
+    }
+}
+
+impl Eq for Lengths {
+    ghost use Rattle.std.specs.Cmp.Lexicographic.{lists_equiv};
+    ghost use Rattle.ps_shapes.specs.contracts.numbers.RealEq.TheImpl.Laws as laws;
+
+    ghost laws = { lists_equiv laws.laws-law };
 }

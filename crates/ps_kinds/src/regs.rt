@@ -6,7 +6,7 @@ use crate::{
 };
 
 /// The graphics state and the modes as they were when a save was made.
-#[derive(Drop)]
+#[derive(PartialEq, Eq, Drop)]
 pub struct SaveMark {
     pub name: SaveName,
     pub state: GState,
@@ -25,7 +25,7 @@ pub type Pages = Sequence<u32>;
 pub type Papers = Sequence<Paper>;
 
 /// What a job holds besides memory.
-#[derive(Drop)]
+#[derive(PartialEq, Eq, Drop)]
 pub struct Regs {
     pub operands: Objects,
     pub dicts: DictStack,
