@@ -1,6 +1,5 @@
 -- What fits goes on fitting.
-use Rattle.std.proofs.Common.{◌≡◌, ◌≢◌, ℕ, zero, suc, ◌≤◌, ◌<◌, ◌+◌, Bool, true, false, cond, not, ◌&&◌, ◌||◌, List, [], ◌∷◌, Option, Some, None, is_some, refl, sym, ap, ◌∙◌, subst, true≢false, nat_eq, eqb-true, arith, map, inl, inr, ◌⊎◌}
-use Rattle.std.specs.Bool.{⊤}
+use Rattle.std.proofs.Common.{◌≡◌, ◌≢◌, ℕ, ◌≤◌, ◌<◌, Bool, true, false, cond, not, ◌&&◌, ◌||◌, List, [], ◌∷◌, Option, Some, None, is_some, refl, sym, ap, ◌∙◌, true≢false, nat_eq, eqb-true, arith, map, inl, inr, ◌⊎◌}
 use Rattle.std.specs.Ordering.{nat_cmp, is_gt, ordering_then, eq_by_cmp}
 use Rattle.std.specs.Cmp.{first_so, second_so}
 use Rattle.std.specs.List.{AllByRecursion}
@@ -9,14 +8,13 @@ use Rattle.ps_objects.specs.declared.cell.Cell.{Cell}
 use Rattle.ps_objects.specs.declared.cell.SaveName.{SaveName}
 use Rattle.ps_objects.specs.declared.key.Key.{Key}
 use Rattle.ps_objects.specs.declared.object.Object.{Object}
-use Rattle.ps_objects.specs.declared.place.Value.{Value}
 use Rattle.ps_objects.specs.declared.place.Value.TheVariants as value
 use Rattle.ps_objects.specs.declared.place.Shape.{Shape}
 use Rattle.ps_memory.specs.Order.{key_cmp}
-use Rattle.ps_memory.specs.Memory.{is_global, newer, Slot, entry, access, item, whole, Found, is, shaped, object_found}
+use Rattle.ps_memory.specs.Memory.{is_global, newer, Slot, entry, item, Found, is, object_found}
 use Rattle.ps_memory.specs.Frame.{later}
 use Rattle.ps_memory.proofs.Order.{key_itself}
-use Rattle.ps_meaning.specs.Fits.{Shapes, FitsCell, FitsObject, FitsKey, FitsFound, SharedFound, key_is_shared, value_is_shared, is_system_dict, cell_named, takes, cell_of_key, key_takes}
+use Rattle.ps_meaning.specs.Fits.{Shapes, FitsCell, FitsKey, FitsFound, SharedFound, key_is_shared, value_is_shared, is_system_dict, cell_named, takes, cell_of_key, key_takes}
 use Rattle.ps_meaning.specs.Sound.{without_newer}
 
 pub apart : {X : Type 0} (x : X) → Some x ≡ None → ⊥

@@ -1,28 +1,25 @@
 -- A lawful run on a sound memory is safe, and leaves it sound.
-use Rattle.std.proofs.Common.{◌≡◌, ◌≢◌, ℕ, zero, suc, ◌<◌, Bool, true, false, cond, List, [], ◌∷◌, Option, Some, None, refl, sym, ap, ◌∙◌, subst, true≢false, inl, inr, ◌⊎◌, arith, length, slice_get}
+use Rattle.std.proofs.Common.{◌≡◌, ◌≢◌, ℕ, zero, suc, ◌<◌, Bool, true, false, cond, List, [], ◌∷◌, Option, Some, None, refl, sym, ap, ◌∙◌, subst, inl, inr, ◌⊎◌, arith, length, slice_get}
 use Rattle.std.specs.Bool.{⊤}
 use Rattle.std.specs.List.{AllByRecursion}
-use Rattle.std.specs.FinMap.{FinMap, get, keys as keys_in}
+use Rattle.std.specs.FinMap.{get}
 use Rattle.ps_objects.specs.declared.cell.Cell.{Cell}
 use Rattle.ps_objects.specs.declared.cell.SaveName.{SaveName}
 use Rattle.ps_objects.specs.declared.key.Key.{Key}
 use Rattle.ps_objects.specs.declared.object.Object.{Object}
 use Rattle.ps_objects.specs.declared.place.Loc.{Loc}
 use Rattle.ps_objects.specs.declared.place.Loc.TheVariants as loc
-use Rattle.ps_objects.specs.declared.place.Value.{Value}
-use Rattle.ps_objects.specs.declared.place.Value.TheVariants as value
 use Rattle.ps_objects.specs.declared.place.Shape.{Shape}
 use Rattle.ps_objects.specs.declared.place.Shape.TheVariants as shape
-use Rattle.ps_memory.specs.Order.{key_cmp}
-use Rattle.ps_memory.specs.Memory.{is_global, newer, Content, dictionary, items, characters, Cells, Memory, Slot, entry, access, item, whole, held, spot_of, Page, here, Found, is, object_found, byte_found, page_found, in_content, in_string, at, part, told, keys_of, value_at, shape_in, shape_at, standing, shape_of, Action, store, fresh, save, restore, tell, do_store, do_fresh, copy_named, perform}
-use Rattle.ps_memory.specs.Tree.{Tree, ends, looks, acts, asks, result, after}
+use Rattle.ps_memory.specs.Memory.{newer, Content, dictionary, items, characters, Memory, entry, access, item, whole, spot_of, Page, object_found, byte_found, page_found, in_content, in_string, part, told, keys_of, value_at, shape_in, standing, shape_of, store, fresh, save, restore, tell, do_store, do_fresh, perform}
+use Rattle.ps_memory.specs.Tree.{Tree, ends, looks, acts, asks}
 use Rattle.ps_memory.specs.Ownership.{same_cell}
-use Rattle.ps_memory.specs.Frame.{later, Safe}
+use Rattle.ps_memory.specs.Frame.{later}
 use Rattle.ps_memory.proofs.Order.{cell_is}
-use Rattle.ps_meaning.specs.Fits.{FitsFound, FitsObject, FitsKey, IsLoc}
-use Rattle.ps_meaning.specs.Sound.{World, StringFits, without_newer, SoundMemory, IsAnswer, with_cell, made, resized, saved_at, restored_to, IsNew, IsNewSave, Lawful, StaysKin, Kept, SoundnessLaw}
+use Rattle.ps_meaning.specs.Fits.{FitsFound, IsLoc}
+use Rattle.ps_meaning.specs.Sound.{World, StringFits, SoundMemory, IsAnswer, made, resized, saved_at, restored_to, Lawful, StaysKin, Kept, SoundnessLaw}
 use Rattle.ps_meaning.proofs.Fits.{apart, keys_fit}
-use Rattle.ps_meaning.proofs.Memory.{HasPage, all_kept, Opened, opened_in, placed, after_store, after_fresh, after_save, after_restore, no_string}
+use Rattle.ps_meaning.proofs.Memory.{HasPage, all_kept, opened_in, placed, after_store, after_fresh, after_save, after_restore, no_string}
 
 -- ---- each look is answered by a value of its kind that fits
 

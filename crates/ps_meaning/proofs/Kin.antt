@@ -1,9 +1,7 @@
 -- By induction over the sections: a cell that stood keeps its shape, or is gone for good.
 use Rattle.std.proofs.Common.{◌≡◌, ◌≢◌, List, [], ◌∷◌, None, refl, sym, ◌∙◌, inl, inr, ◌⊎◌}
-use Rattle.std.specs.List.{AllByRecursion}
 use Rattle.ps_objects.specs.declared.cell.Cell.{Cell}
 use Rattle.ps_memory.specs.Memory.{shape_at}
-use Rattle.ps_memory.specs.Frame.{Kin}
 use Rattle.ps_meaning.specs.Sound.{World, StaysKin}
 use Rattle.ps_meaning.specs.Kin.{in_section, Follows, last_of, IsBefore, KinLaw}
 

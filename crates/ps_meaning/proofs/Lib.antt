@@ -2,3 +2,4 @@ pub mod Fits
 pub mod Memory
 pub mod Ground
 pub mod Kin
+pub mod Start

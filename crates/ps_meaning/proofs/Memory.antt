@@ -1,13 +1,11 @@
 -- Each action keeps a sound memory sound.
-use Rattle.std.proofs.Common.{◌≡◌, ◌≢◌, ℕ, zero, suc, ◌<◌, ◌≤◌, Bool, true, false, cond, not, ◌&&◌, List, [], ◌∷◌, Option, Some, None, refl, sym, ap, ◌∙◌, subst, true≢false, inl, inr, ◌⊎◌, arith, length, nat_lt, slice_get, slice_set, replicate}
-use Rattle.std.specs.Bool.{⊤}
+use Rattle.std.proofs.Common.{◌≡◌, ◌≢◌, ℕ, zero, suc, ◌<◌, ◌≤◌, Bool, true, false, cond, not, List, [], ◌∷◌, Option, Some, None, refl, sym, ap, ◌∙◌, subst, true≢false, arith, length, nat_lt, slice_get, slice_set, replicate}
 use Rattle.std.specs.List.{AllByRecursion}
-use Rattle.std.specs.FinMap.{FinMap, get, insert, get-empty, keys as keys_in}
+use Rattle.std.specs.FinMap.{get, insert, get-empty}
 use Rattle.ps_shapes.specs.Sheet.{Sheet}
 use Rattle.ps_objects.specs.declared.cell.Cell.{Cell}
 use Rattle.ps_objects.specs.declared.cell.SaveName.{SaveName}
 use Rattle.ps_objects.specs.declared.key.Key.{Key}
-use Rattle.ps_objects.specs.declared.object.Object.{Object}
 use Rattle.ps_objects.specs.declared.place.Loc.{Loc}
 use Rattle.ps_objects.specs.declared.place.Loc.TheVariants as loc
 use Rattle.ps_objects.specs.declared.place.Value.{Value}
@@ -15,16 +13,16 @@ use Rattle.ps_objects.specs.declared.place.Value.TheVariants as value
 use Rattle.ps_objects.specs.declared.place.Shape.{Shape}
 use Rattle.ps_objects.specs.declared.place.Shape.TheVariants as shape
 use Rattle.ps_memory.specs.Order.{key_cmp}
-use Rattle.ps_memory.specs.Memory.{is_global, newer, same_save, Content, dictionary, items, characters, Cells, Memory, Slot, entry, access, item, whole, Spot, held, byte, rand, paper, spot_of, Page, here, Found, is, shaped, object_found, byte_found, page_found, in_content, in_string, at, part, told, keys_of, value_at, shape_in, shape_at, is_slot, is_byte, is_place, is_kind, Action, store, fresh, save, restore, null_object, content_of, new_bytes, put_content, put_byte, put_cell, do_store, do_fresh, copy_named, older_than, put_back, perform}
+use Rattle.ps_memory.specs.Memory.{is_global, newer, same_save, Content, dictionary, items, characters, Cells, Memory, Slot, entry, access, item, whole, Spot, held, byte, rand, paper, spot_of, Page, here, is, object_found, in_content, at, part, shape_in, shape_at, is_slot, is_byte, is_place, is_kind, save, restore, null_object, content_of, new_bytes, put_content, put_byte, put_cell, do_store, do_fresh, copy_named, older_than, put_back, perform}
 use Rattle.ps_memory.specs.Ownership.{same_cell, same_spot}
 use Rattle.ps_memory.specs.Frame.{later}
-use Rattle.ps_memory.proofs.Order.{cell_is, cell_itself}
-use Rattle.ps_memory.proofs.Places.{spot_is, mapped, put_at, part_here, part_strings, part_rand, part_page, store_other, length_set, held_fresh, bytes_new, string_fresh, string_fresh_other, fresh_other, restored, string_kept as string_dropped}
+use Rattle.ps_memory.proofs.Order.{cell_is}
+use Rattle.ps_memory.proofs.Places.{spot_is, mapped, put_at, part_strings, part_rand, part_page, store_other, length_set, held_fresh, bytes_new, string_fresh, string_fresh_other, fresh_other, restored, string_kept as string_dropped}
 use Rattle.ps_memory.proofs.Stored.{stored, no_shape}
 use Rattle.ps_memory.proofs.Frame.{save_is, kept_store, kept_fresh}
-use Rattle.ps_meaning.specs.Fits.{Shapes, FitsFound, FitsSpot, SharedFound, SharedSpot, IsDict, IsLoc}
-use Rattle.ps_meaning.specs.Sound.{Size, size_of, World, StartCell, named_at_start, start_cells, StartStands, IsUnique, StringFits, without_newer, SoundCopy, SoundKept, SoundMemory, IsAnswer, with_cell, made, new_size, resized, saved_at, has_name, names_before, restored_to, IsNew, IsNewSave}
-use Rattle.ps_meaning.proofs.Fits.{apart, found_stays, newer_than_older, start_is_old, global_is_old, found_old, keys_fit}
+use Rattle.ps_meaning.specs.Fits.{Shapes, FitsFound, FitsSpot, SharedFound, SharedSpot, IsLoc}
+use Rattle.ps_meaning.specs.Sound.{Size, size_of, World, named_at_start, start_cells, StringFits, without_newer, SoundCopy, SoundKept, SoundMemory, with_cell, made, new_size, resized, saved_at, has_name, names_before, restored_to, IsNew, IsNewSave}
+use Rattle.ps_meaning.proofs.Fits.{apart, found_stays, newer_than_older, start_is_old, global_is_old, found_old}
 
 pub all_map : {X : Type 0} (P Q : X → Type 0) → ((x : X) → P x → Q x) → (xs : List X) → AllByRecursion P xs → AllByRecursion Q xs
 all_map P Q f [] h = tt

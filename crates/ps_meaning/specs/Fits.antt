@@ -1,7 +1,6 @@
 -- Objects and keys whose cells stand, with a fitting shape and range.
-use Rattle.std.specs.Prelude.{◌≡◌, ℕ, ◌+◌, ◌<◌, Bool, true, false, not, cond, ◌&&◌, ◌||◌, Option, Some, None, nat_eq, nat_le, ⊤}
+use Rattle.std.specs.Prelude.{◌≡◌, ℕ, ◌+◌, ◌<◌, Bool, true, false, ◌&&◌, ◌||◌, Option, Some, None, nat_eq, nat_le, ⊤}
 use Rattle.ps_objects.specs.declared.cell.Cell.{Cell}
-use Rattle.ps_objects.specs.declared.cell.SaveName.{SaveName}
 use Rattle.ps_objects.specs.declared.key.Key.{Key}
 use Rattle.ps_objects.specs.declared.key.Key.TheVariants as key
 use Rattle.ps_objects.specs.declared.object.Object.{Object}
@@ -9,11 +8,10 @@ use Rattle.ps_objects.specs.declared.object.Kind.{Kind}
 use Rattle.ps_objects.specs.declared.object.Kind.TheVariants as kind
 use Rattle.ps_objects.specs.declared.place.Loc.{Loc}
 use Rattle.ps_objects.specs.declared.place.Loc.TheVariants as loc
-use Rattle.ps_objects.specs.declared.place.Value.{Value}
 use Rattle.ps_objects.specs.declared.place.Value.TheVariants as value
 use Rattle.ps_objects.specs.declared.place.Shape.{Shape}
 use Rattle.ps_objects.specs.declared.place.Shape.TheVariants as shape
-use Rattle.ps_memory.specs.Memory.{is_global, newer, Slot, entry, access, item, whole, Spot, held, byte, rand, paper, Found, is}
+use Rattle.ps_memory.specs.Memory.{is_global, Slot, entry, item, Spot, held, byte, rand, paper, Found, is}
 
 -- the shape of each cell that stands
 abbrev pub Shapes : Type 0

@@ -2,3 +2,4 @@ pub mod Fits
 pub mod Sound
 pub mod Registers
 pub mod Kin
+pub mod Start

@@ -13,11 +13,11 @@ use Rattle.ps_objects.specs.declared.place.Value.{Value}
 use Rattle.ps_objects.specs.declared.place.Value.TheVariants as value
 use Rattle.ps_objects.specs.declared.place.Shape.{Shape}
 use Rattle.ps_objects.specs.declared.place.Shape.TheVariants as shape
-use Rattle.ps_memory.specs.Memory.{is_global, newer, same_save, Cells, Memory, Slot, whole, Spot, held, byte, rand, paper, spot_of, Page, here, is, in_content, at, part, shape_in, shape_at, standing, is_kind, Action, store, fresh, save, restore, tell}
+use Rattle.ps_memory.specs.Memory.{is_global, newer, same_save, Cells, Memory, Slot, whole, Spot, held, rand, paper, spot_of, here, is, in_content, at, shape_in, shape_at, standing, is_kind, store, fresh, save, restore, tell}
 use Rattle.ps_memory.specs.Tree.{Tree, ends, looks, acts, asks, result, after}
 use Rattle.ps_memory.specs.Ownership.{same_cell}
 use Rattle.ps_memory.specs.Frame.{later, Safe}
-use Rattle.ps_meaning.specs.Fits.{Shapes, FitsFound, FitsObject, FitsKey, FitsSpot, SharedFound, SharedSpot, IsDict, IsLoc}
+use Rattle.ps_meaning.specs.Fits.{Shapes, FitsFound, FitsObject, FitsKey, FitsSpot, SharedFound, SharedSpot, IsLoc}
 
 pub record Size : Type 0 where
   pub width : ℕ

@@ -1,9 +1,8 @@
 -- The registers and the memory with which a job starts.
 use Rattle.std.specs.Prelude.{ℕ, suc, ◌*◌, pos, false, true, List, [], ◌∷◌, ◌++◌, take, codes}
-use Rattle.std.specs.FinMap.{FinMap, empty, from_entries}
+use Rattle.std.specs.FinMap.{from_entries}
 use Rattle.ps_shapes.specs.declared.numbers.Matrix.{Matrix}
 use Rattle.ps_shapes.specs.declared.numbers.Real.{Real}
-use Rattle.ps_shapes.specs.Screen.{Screen}
 use Rattle.ps_objects.specs.declared.access.Access.TheVariants.{Unlimited, ReadOnly}
 use Rattle.ps_objects.specs.declared.cell.Cell.{Cell}
 use Rattle.ps_objects.specs.declared.cell.Space.TheVariants.{Local, Global}
@@ -18,7 +17,6 @@ use Rattle.ps_kinds.specs.declared.graphics.GState.{GState}
 use Rattle.ps_kinds.specs.declared.ranges.LineCap.TheVariants.{Butt}
 use Rattle.ps_kinds.specs.declared.ranges.LineJoin.TheVariants.{Miter}
 use Rattle.ps_kinds.specs.declared.regs.Regs.{Regs}
-use Rattle.ps_memory.specs.Order.{key_cmp}
 use Rattle.ps_memory.specs.Memory.{Content, dictionary, items, characters, Memory, here, blank, null_object}
 use Rattle.ps_meaning.specs.Registers.{system_dict, global_dict, user_dict, SoundState}
 
@@ -89,14 +87,14 @@ error_record_entries = (key.Name (codes "newerror"), literal (kind.Boolean false
 
 abbrev pub start_locals : List (Cell × Content)
 start_locals =
-    (user_dict, dictionary 0 Unlimited empty) ∷ (error_dict, dictionary 0 Unlimited (from_entries error_entries))
-    ∷ (error_record, dictionary 0 Unlimited (from_entries error_record_entries)) ∷ (status_dict, dictionary 0 Unlimited empty)
-    ∷ (font_directory, dictionary 0 ReadOnly empty) ∷ (version, characters 8) ∷ (empty_dash, items []) ∷ []
+    (user_dict, dictionary 0 Unlimited (from_entries [])) ∷ (error_dict, dictionary 0 Unlimited (from_entries error_entries))
+    ∷ (error_record, dictionary 0 Unlimited (from_entries error_record_entries)) ∷ (status_dict, dictionary 0 Unlimited (from_entries []))
+    ∷ (font_directory, dictionary 0 ReadOnly (from_entries [])) ∷ (version, characters 8) ∷ (empty_dash, items []) ∷ []
 
 abbrev pub start_globals : List (Cell × Content)
 start_globals =
-    (system_dict, dictionary 0 ReadOnly (from_entries system_entries)) ∷ (global_dict, dictionary 0 Unlimited empty)
-    ∷ (global_font_directory, dictionary 0 ReadOnly empty) ∷ (product, characters 8) ∷ []
+    (system_dict, dictionary 0 ReadOnly (from_entries system_entries)) ∷ (global_dict, dictionary 0 Unlimited (from_entries []))
+    ∷ (global_font_directory, dictionary 0 ReadOnly (from_entries [])) ∷ (product, characters 8) ∷ []
 
 abbrev pub start_strings : List (Cell × List ℕ)
 start_strings = (version, codes "page-rip") ∷ (product, codes "page-rip") ∷ []

@@ -3,6 +3,7 @@
 
 ghost use Rattle.ps_meaning.specs.Kin.{KinLaw};
 ghost use Rattle.ps_meaning.specs.Sound.{SoundnessLaw};
+ghost use Rattle.ps_meaning.specs.Start.{StartLaw};
 
 /// A lawful run on a sound memory does only what is allowed, and leaves a sound memory.
 pub fn soundness_law<A>()
@@ -12,4 +13,9 @@ pub fn soundness_law<A>()
 /// What stands both before some sections and after them has one shape.
 pub fn kin_law()
     ensures { KinLaw }
+{}
+
+/// A job starts in a sound state.
+pub fn start_law()
+    ensures { StartLaw }
 {}
