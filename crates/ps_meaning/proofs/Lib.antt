@@ -3,3 +3,4 @@ pub mod Memory
 pub mod Ground
 pub mod Kin
 pub mod Start
+pub mod Answer

@@ -3,3 +3,4 @@ pub mod Sound
 pub mod Registers
 pub mod Kin
 pub mod Start
+pub mod Answer

@@ -1,6 +1,7 @@
 //! Sound states, and what keeps them sound.
 #![tactic(auto)]
 
+ghost use Rattle.ps_meaning.specs.Answer.{AnswerLaw};
 ghost use Rattle.ps_meaning.specs.Kin.{KinLaw};
 ghost use Rattle.ps_meaning.specs.Sound.{SoundnessLaw};
 ghost use Rattle.ps_meaning.specs.Start.{StartLaw};
@@ -18,4 +19,9 @@ pub fn kin_law()
 /// A job starts in a sound state.
 pub fn start_law()
     ensures { StartLaw }
+{}
+
+/// An application answers as its run does, up to a restore of a save that was made before the run.
+pub fn answer_law()
+    ensures { AnswerLaw }
 {}

@@ -292,20 +292,10 @@ perform (save s) M = record M { kept = (s, M.locals) ∷ M.kept }
 perform (restore s) M = put_back s (copy_named s M.kept) M
 perform (tell o) M = M
 
--- ---- short forms
-
-abbrev pub remove_entry : Cell → Key → Action
-remove_entry d k = store (loc.Entry d k) value.Absent
+-- ---- paper in an operator's hands
 
 abbrev pub blank : ℕ → ℕ → Sheet
 blank width height = drawn width height (λ _ _. false)
-
--- paper is laid where it was taken, or blank paper of a size
-abbrev pub lay : Sheet → Action
-lay p = store loc.Paper (value.Paper p)
-
-abbrev pub wipe : ℕ → ℕ → Action
-wipe width height = lay (blank width height)
 
 abbrev pub taken_out : Page → Page
 taken_out (here p) = out p.width p.height

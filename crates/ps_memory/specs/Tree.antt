@@ -1,18 +1,43 @@
 -- What an application and a run do, as trees of looks and actions. A memory enters a tree by its answers alone.
-use Rattle.std.specs.Prelude.{List, [], ◌∷◌, Result, Ok, Err}
+use Rattle.std.specs.Prelude.{ℕ, List, [], ◌∷◌, Result, Ok, Err}
+use Rattle.ps_shapes.specs.Sheet.{Sheet}
 use Rattle.ps_objects.specs.declared.cell.Cell.{Cell}
 use Rattle.ps_objects.specs.declared.cell.SaveName.{SaveName}
 use Rattle.ps_objects.specs.declared.error_name.ErrorName.{ErrorName}
+use Rattle.ps_objects.specs.declared.key.Key.{Key}
 use Rattle.ps_objects.specs.declared.place.Loc.{Loc}
+use Rattle.ps_objects.specs.declared.place.Loc.TheVariants as loc
 use Rattle.ps_objects.specs.declared.place.Value.{Value}
+use Rattle.ps_objects.specs.declared.place.Value.TheVariants as value
 use Rattle.ps_objects.specs.declared.place.Shape.{Shape}
-use Rattle.ps_memory.specs.Memory.{Memory, value_at, shape_of, Output, Action, restore, tell, perform}
+use Rattle.ps_memory.specs.Memory.{Memory, value_at, shape_of, blank, Output, Action, store, fresh, save, restore, tell, perform}
 
--- One application of an operator, a name or a step. Its actions stand at its end, so that an error changes nothing.
--- A restore has an end of its own, since an overlay may refuse it.
+-- what an application does to memory at its end; a store of the absent value at an entry takes it away
+pub data Change : Type 0 where
+  puts : Loc → Value → Change
+  makes : Cell → Shape → Change
+  opens : SaveName → Change
+
+abbrev pub action_of : Change → Action
+action_of (puts l v) = store l v
+action_of (makes c sh) = fresh c sh
+action_of (opens s) = save s
+
+abbrev pub removes : Cell → Key → Change
+removes d k = puts (loc.Entry d k) value.Absent
+
+-- paper is laid where it was taken, or blank paper of a size
+abbrev pub lays : Sheet → Change
+lays p = puts loc.Paper (value.Paper p)
+
+abbrev pub wipes : ℕ → ℕ → Change
+wipes width height = lays (blank width height)
+
+-- One application of an operator, a name or a step. Its changes stand at its end, so that an error changes nothing.
+-- A restore has an end of its own, before any changes, since memory may refuse it.
 pub data Application (A : Type 0) : Type 0 where
-  done : List Action → A → Application A
-  restores : SaveName → List Action → A → Application A
+  done : List Change → A → Application A
+  restores : SaveName → List Change → A → Application A
   fail : ErrorName → Application A
   look : Loc → (Value → Application A) → Application A
   ask : Cell → (Shape → Application A) → Application A
@@ -31,14 +56,14 @@ abbrev pub ◌>>=◌ : {A B : Type 0} → Tree A → (A → Tree B) → Tree B
 ◌>>=◌ (acts w t) k = acts w (t >>= k)
 ◌>>=◌ (asks c f) k = asks c (λ s. f s >>= k)
 
-abbrev pub acts_all : {A : Type 0} → List Action → Tree A → Tree A
-acts_all [] t = t
-acts_all (w ∷ ws) t = acts w (acts_all ws t)
+abbrev pub changes : {A : Type 0} → List Change → Tree A → Tree A
+changes [] t = t
+changes (w ∷ ws) t = acts (action_of w) (changes ws t)
 
 -- an application in a run
 abbrev pub applied : {A : Type 0} → Application A → Tree (Result A ErrorName)
-applied (done ws a) = acts_all ws (ends (Ok a))
-applied (restores s ws a) = acts (restore s) (acts_all ws (ends (Ok a)))
+applied (done ws a) = changes ws (ends (Ok a))
+applied (restores s ws a) = acts (restore s) (changes ws (ends (Ok a)))
 applied (fail e) = ends (Err e)
 applied (look l f) = looks l (λ v. applied (f v))
 applied (ask c f) = asks c (λ s. applied (f s))
