@@ -7,3 +7,4 @@ pub mod Undo
 pub mod Replace
 pub mod Writes
 pub mod Track
+mod Examples
