@@ -1,4 +1,5 @@
--- Memory: what each cell holds, the bytes of strings, the state of the random numbers, the paper, and the kept copies.
+-- Memory: what each cell holds, the bytes of strings, the state of the random numbers, the paper, and the kept copies
+-- (section 3.7 of the language manual: virtual memory, local and global).
 use Rattle.std.specs.Prelude.{ℕ, Bool, true, false, cond, ◌&&◌, not, List, [], ◌∷◌, Option, Some, None, slice_get, slice_set, length, nat_eq, nat_lt, replicate}
 use Rattle.std.specs.Ordering.{nat_cmp, is_gt, ordering_then}
 use Rattle.std.specs.FinMap.{FinMap, get, insert, remove, retain_keys, empty, keys as keys_in}
@@ -279,7 +280,8 @@ abbrev pub older_than : SaveName → List (SaveName × Cells) → List (SaveName
 older_than s [] = []
 older_than s (k ∷ kept) = cond (same_save s k.0) kept (older_than s kept)
 
--- the copy takes the local part's place; the bytes of strings newer than the save go, and those of others stay
+-- The copy takes the local part's place; the bytes of strings newer than the save go, and those of others stay
+-- (section 3.7.3 of the language manual: save and restore).
 abbrev pub put_back : SaveName → Option Cells → Memory → Memory
 put_back s None M = M
 put_back s (Some copy) M =
