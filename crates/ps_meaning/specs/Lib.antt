@@ -1,0 +1,6 @@
+pub mod Fits
+pub mod Sound
+pub mod Registers
+pub mod Kin
+pub mod Start
+pub mod Answer

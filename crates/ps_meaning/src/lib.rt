@@ -1,0 +1,27 @@
+//! Sound states, and what keeps them sound.
+#![tactic(auto)]
+
+ghost use Rattle.ps_meaning.specs.Answer.{AnswerLaw};
+ghost use Rattle.ps_meaning.specs.Kin.{KinLaw};
+ghost use Rattle.ps_meaning.specs.Sound.{SoundnessLaw};
+ghost use Rattle.ps_meaning.specs.Start.{StartLaw};
+
+/// A lawful run on a sound memory does only what is allowed, and leaves a sound memory.
+pub fn soundness_law<A>()
+    ensures { SoundnessLaw A }
+{}
+
+/// What stands both before some sections and after them has one shape.
+pub fn kin_law()
+    ensures { KinLaw }
+{}
+
+/// A job starts in a sound state.
+pub fn start_law()
+    ensures { StartLaw }
+{}
+
+/// An application answers as its run does, up to a restore of a save that was made before the run.
+pub fn answer_law()
+    ensures { AnswerLaw }
+{}

@@ -1,0 +1,10 @@
+pub mod Order
+pub mod Places
+pub mod Stored
+pub mod Keys
+pub mod Frame
+pub mod Undo
+pub mod Replace
+pub mod Writes
+pub mod Track
+mod Examples

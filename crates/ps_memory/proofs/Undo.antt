@@ -1,0 +1,299 @@
+-- To restore a save among the writes is to leave out what doesn't outlive it.
+use Rattle.std.proofs.Common.{◌≡◌, ℕ, Bool, true, false, cond, not, ◌&&◌, List, [], ◌∷◌, Option, Some, None, refl, sym, ap, ◌∙◌, subst, true≢false, replicate}
+use Rattle.std.specs.Ordering.{is_gt, ordering_then, nat_cmp}
+use Rattle.std.specs.List.{AllByRecursion}
+use Rattle.std.specs.FinMap.{FinMap, get, insert, remove, retain_keys, get-insert, get-remove, same_map}
+use Rattle.ps_objects.specs.declared.cell.Cell.{Cell}
+use Rattle.ps_objects.specs.declared.cell.SaveName.{SaveName}
+use Rattle.ps_objects.specs.declared.place.Value.{Value}
+use Rattle.ps_objects.specs.declared.place.Shape.{Shape}
+use Rattle.ps_objects.specs.declared.place.Shape.TheVariants as shape
+use Rattle.ps_memory.specs.Order.{cell_cmp}
+use Rattle.ps_memory.specs.Memory.{is_global, newer, same_save, Content, dictionary, items, characters, Cells, Memory, whole, Spot, held, byte, rand, paper, spot_of, in_content, shape_in, is_slot, is_byte, is_place, Action, store, fresh, save, restore, tell, put_content, put_byte, put_cell, do_store, content_of, new_bytes, do_fresh, copy_named, older_than, put_back, perform}
+use Rattle.ps_memory.specs.Ownership.{same_cell}
+use Rattle.ps_memory.specs.Frame.{IsUnused}
+use Rattle.ps_memory.specs.Writes.{apply, Applicable, outlives, undo}
+use Rattle.ps_memory.proofs.Order.{cells_total, cells_antisymmetric, cell_is}
+use Rattle.ps_memory.proofs.Places.{string_kept, put_other, put_at, mapped, string_fresh_other, restored}
+use Rattle.ps_memory.proofs.Frame.{save_is, kept_store, kept_fresh}
+
+abbrev keep : SaveName → FinMap cell_cmp (List ℕ) → FinMap cell_cmp (List ℕ)
+keep s m = retain_keys m (λ c. not (newer c s))
+
+same_strings : (m n : FinMap cell_cmp (List ℕ)) → ((c : Cell) → get m c ≡ get n c) → m ≡ n
+same_strings m n h = same_map cells_total cells_antisymmetric m n h
+
+-- nothing is dropped where nothing is newer
+keep_all : (s : SaveName) (m : FinMap cell_cmp (List ℕ)) → ((c : Cell) → newer c s ≡ true → get m c ≡ None) → keep s m ≡ m
+keep_all s m h = same_strings (keep s m) m (λ c. string_kept s c m ∙ go c (newer c s) refl)
+  where
+    go : (c : Cell) (x : Bool) → newer c s ≡ x → cond (not x) (get m c) None ≡ get m c
+    go c true e = sym (h c e)
+    go c false e = refl
+
+-- a change at one cell
+keep_change : (s : SaveName) (c : Cell) (m n : FinMap cell_cmp (List ℕ)) → newer c s ≡ true → ((d : Cell) → same_cell d c ≡ false → get n d ≡ get m d) → keep s n ≡ keep s m
+keep_change s c m n h other = same_strings (keep s n) (keep s m) (λ d. string_kept s d n ∙ go d (same_cell d c) refl ∙ sym (string_kept s d m))
+  where
+    go : (d : Cell) (x : Bool) → same_cell d c ≡ x → cond (not (newer d s)) (get n d) None ≡ cond (not (newer d s)) (get m d) None
+    go d true e = let late = ap (λ c. newer c s) (cell_is d c e) ∙ h in ap (λ b. cond (not b) (get n d) None) late ∙ sym (ap (λ b. cond (not b) (get m d) None) late)
+    go d false e = ap (λ o. cond (not (newer d s)) o None) (other d e)
+
+keep_put : (s : SaveName) (c : Cell) (f : List ℕ → List ℕ) (m : FinMap cell_cmp (List ℕ)) → keep s (put_cell c f m) ≡ put_cell c f (keep s m)
+keep_put s c f m = same_strings (keep s (put_cell c f m)) (put_cell c f (keep s m)) (λ d.
+    string_kept s d (put_cell c f m) ∙ ap (λ o. cond (not (newer d s)) o None) (put_at c d f m) ∙ go (newer d s) (same_cell d c) (get m d)
+    ∙ ap (λ o. cond (same_cell d c) (mapped f o) o) (sym (string_kept s d m)) ∙ sym (put_at c d f (keep s m)))
+  where
+    go : (x y : Bool) (o : Option (List ℕ)) → cond (not x) (cond y (mapped f o) o) None ≡ cond y (mapped f (cond (not x) o None)) (cond (not x) o None)
+    go true true o = refl
+    go true false o = refl
+    go false y o = refl
+
+keep_insert : (s : SaveName) (c : Cell) (b : List ℕ) (m : FinMap cell_cmp (List ℕ)) → newer c s ≡ false → keep s (insert m c b) ≡ insert (keep s m) c b
+keep_insert s c b m h = same_strings (keep s (insert m c b)) (insert (keep s m) c b) (λ d.
+    string_kept s d (insert m c b) ∙ ap (λ o. cond (not (newer d s)) o None) (get-insert cells_total m c b d) ∙ go d (same_cell d c) refl
+    ∙ ap (cond (same_cell d c) (Some b)) (sym (string_kept s d m)) ∙ sym (get-insert cells_total (keep s m) c b d))
+  where
+    go : (d : Cell) (x : Bool) → same_cell d c ≡ x → cond (not (newer d s)) (cond x (Some b) (get m d)) None ≡ cond x (Some b) (cond (not (newer d s)) (get m d) None)
+    go d true e = ap (λ y. cond (not y) (Some b) None) (ap (λ c. newer c s) (cell_is d c e) ∙ h)
+    go d false e = refl
+
+keep_remove : (s : SaveName) (c : Cell) (m : FinMap cell_cmp (List ℕ)) → keep s (remove m c) ≡ remove (keep s m) c
+keep_remove s c m = same_strings (keep s (remove m c)) (remove (keep s m) c) (λ d.
+    string_kept s d (remove m c) ∙ ap (λ o. cond (not (newer d s)) o None) (get-remove cells_total m c d) ∙ go (newer d s) (same_cell d c) (get m d)
+    ∙ ap (cond (same_cell d c) None) (sym (string_kept s d m)) ∙ sym (get-remove cells_total (keep s m) c d))
+  where
+    go : (x y : Bool) (o : Option (List ℕ)) → cond (not x) (cond y None o) None ≡ cond y None (cond (not x) o None)
+    go true true o = refl
+    go true false o = refl
+    go false true o = refl
+    go false false o = refl
+
+keep_new : (s : SaveName) (c : Cell) (sh : Shape) (m : FinMap cell_cmp (List ℕ)) → newer c s ≡ false → keep s (new_bytes c sh m) ≡ new_bytes c sh (keep s m)
+keep_new s c (shape.Dict n) m h = keep_remove s c m
+keep_new s c (shape.Array n) m h = keep_remove s c m
+keep_new s c (shape.Str n) m h = keep_insert s c (replicate n 0) m h
+
+-- ---- a restore after an action
+
+back_store : (s : SaveName) (C : Cells) (p : Spot) (v : Value) (M : Memory) → put_back s (Some C) (do_store p v M) ≡ cond (outlives s p) (do_store p v (put_back s (Some C) M)) (put_back s (Some C) M)
+back_store s C (held c t) v M = go (is_global c)
+  where
+    f : Cells → Cells
+    f = put_cell c (put_content t v)
+
+    R : Memory
+    R = put_back s (Some C) M
+
+    go : (x : Bool) → put_back s (Some C) (cond x (record M { globals = f M.globals }) (record M { locals = f M.locals })) ≡ cond x (cond x (record R { globals = f R.globals }) (record R { locals = f R.locals })) R
+    go true = refl
+    go false = refl
+back_store s C (byte c i) v M = go (newer c s) refl
+  where
+    f : List ℕ → List ℕ
+    f = put_byte i v
+
+    R : Memory
+    R = put_back s (Some C) M
+
+    go : (x : Bool) → newer c s ≡ x → record R { strings = keep s (put_cell c f M.strings) } ≡ cond (not x) (record R { strings = put_cell c f R.strings }) R
+    go true e = ap (λ m. record R { strings = m }) (keep_change s c M.strings (put_cell c f M.strings) e (λ d h. put_other c d f M.strings h))
+    go false e = ap (λ m. record R { strings = m }) (keep_put s c f M.strings)
+back_store s C rand v M = refl
+back_store s C paper v M = refl
+
+back_fresh : (s : SaveName) (C : Cells) (c : Cell) (sh : Shape) (M : Memory) → (is_global c ≡ false → newer c s ≡ true) → put_back s (Some C) (do_fresh c sh M) ≡ cond (is_global c) (do_fresh c sh (put_back s (Some C) M)) (put_back s (Some C) M)
+back_fresh s C c sh M h = go (is_global c) refl
+  where
+    f : Cells → Cells
+    f = λ m. insert m c (content_of sh)
+
+    R : Memory
+    R = put_back s (Some C) M
+
+    new : FinMap cell_cmp (List ℕ)
+    new = new_bytes c sh M.strings
+
+    go : (x : Bool) → is_global c ≡ x → put_back s (Some C) (record (cond x (record M { globals = f M.globals }) (record M { locals = f M.locals })) { strings = new })
+        ≡ cond x (record (cond x (record R { globals = f R.globals }) (record R { locals = f R.locals })) { strings = new_bytes c sh R.strings }) R
+    go true e = ap (λ m. record (record R { globals = f M.globals }) { strings = m }) (keep_new s c sh M.strings (ap (λ g. not g && is_gt (ordering_then (nat_cmp c.section s.section) (nat_cmp c.count s.count))) e))
+    go false e = ap (λ m. record R { strings = m }) (keep_change s c M.strings new (h e) (λ d g. string_fresh_other c d sh M.strings g))
+
+-- ---- what stands locally goes on standing
+
+none_before : {X : Type 0} (b : Bool) (f : X → X) (o : Option X) → cond b (mapped f o) o ≡ None → o ≡ None
+none_before true f None e = refl
+none_before true f (Some x) e = cc
+none_before false f o e = e
+
+stands_store : (p : Spot) (v : Value) (M : Memory) (d : Cell) → get (do_store p v M).locals d ≡ None → get M.locals d ≡ None
+stands_store (held c t) v M d h = go (is_global c) h
+  where
+    f : Content → Content
+    f = put_content t v
+
+    go : (x : Bool) → get (cond x (record M { globals = put_cell c f M.globals }) (record M { locals = put_cell c f M.locals })).locals d ≡ None → get M.locals d ≡ None
+    go true e = e
+    go false e = none_before (same_cell d c) f (get M.locals d) (sym (put_at c d f M.locals) ∙ e)
+stands_store (byte c i) v M d h = h
+stands_store rand v M d h = h
+stands_store paper v M d h = h
+
+stands_fresh : (c : Cell) (sh : Shape) (M : Memory) (d : Cell) → get (do_fresh c sh M).locals d ≡ None → get M.locals d ≡ None
+stands_fresh c sh M d h = go (is_global c) h
+  where
+    f : Cells → Cells
+    f = λ m. insert m c (content_of sh)
+
+    inserted : (b : Bool) → cond b (Some (content_of sh)) (get M.locals d) ≡ None → get M.locals d ≡ None
+    inserted true e = cc
+    inserted false e = e
+
+    go : (x : Bool) → get (cond x (record M { globals = f M.globals }) (record M { locals = f M.locals })).locals d ≡ None → get M.locals d ≡ None
+    go true e = e
+    go false e = inserted (same_cell d c) (sym (get-insert cells_total M.locals c (content_of sh) d) ∙ e)
+
+-- ---- a restore after many writes
+
+abbrev pub is_open : SaveName → List Action → Bool
+is_open s [] = false
+is_open s (save r ∷ ws) = cond (same_save s r) true (is_open s ws)
+is_open s (_ ∷ ws) = is_open s ws
+
+-- the copy under a name that the writes opened: each of its cells still stands
+record Opened (s : SaveName) (M : Memory) : Type 0 where
+  copy : Cells
+  named : copy_named s M.kept ≡ Some copy
+  within : (c : Cell) → get M.locals c ≡ None → get copy c ≡ None
+
+opened : (s : SaveName) (ws : List Action) (N : Memory) → Applicable ws N → is_open s ws ≡ true → Opened s (apply ws N)
+opened s [] N f h = absurd (true≢false (sym h))
+opened s (save r ∷ ws) N f h = go (same_save s r) refl h (opened s ws N f.2)
+  where
+    M : Memory
+    M = apply ws N
+
+    go : (x : Bool) → same_save s r ≡ x → cond x true (is_open s ws) ≡ true → (is_open s ws ≡ true → Opened s M) → Opened s (record M { kept = (r, M.locals) ∷ M.kept })
+    go true e h ih = record { copy = M.locals; named = ap (λ x. cond x (Some M.locals) (copy_named s M.kept)) e; within = λ c g. g }
+    go false e h ih = let o = ih h in record { copy = o.copy; named = ap (λ x. cond x (Some M.locals) (copy_named s M.kept)) e ∙ o.named; within = o.within }
+opened s (fresh c sh ∷ ws) N f h =
+    let o = opened s ws N f.2 h in
+    record { copy = o.copy; named = ap (copy_named s) (kept_fresh c sh (apply ws N)) ∙ o.named; within = λ d g. o.within d (stands_fresh c sh (apply ws N) d g) }
+opened s (store l v ∷ ws) N f h =
+    let o = opened s ws N f.2 h in
+    record { copy = o.copy; named = ap (copy_named s) (kept_store (spot_of l) v (apply ws N)) ∙ o.named; within = λ d g. o.within d (stands_store (spot_of l) v (apply ws N) d g) }
+opened s (restore r ∷ ws) N f h = absurd (true≢false (sym f.0))
+opened s (tell x ∷ ws) N f h = absurd (true≢false (sym f.0))
+
+newer_than_named : (s : SaveName) (c : Cell) (ks : List (SaveName × Cells)) (C : Cells) → AllByRecursion (λ k. newer c k.0 ≡ true) ks → copy_named s ks ≡ Some C → newer c s ≡ true
+newer_than_named s c [] C all e = cc
+newer_than_named s c (k ∷ ks) C all e = go (same_save s k.0) refl e (newer_than_named s c ks C all.1)
+  where
+    go : (x : Bool) → same_save s k.0 ≡ x → cond x (Some k.1) (copy_named s ks) ≡ Some C → (copy_named s ks ≡ Some C → newer c s ≡ true) → newer c s ≡ true
+    go true i e ih = ap (newer c) (save_is s k.0 i) ∙ all.0
+    go false i e ih = ih e
+
+pub undone : (s : SaveName) (ws : List Action) (N : Memory) → Applicable ws N → is_open s ws ≡ true → perform (restore s) (apply ws N) ≡ apply (undo s ws) N
+undone s [] N f h = absurd (true≢false (sym h))
+undone s (save r ∷ ws) N f h = go (same_save s r) refl h (undone s ws N f.2)
+  where
+    M : Memory
+    M = apply ws N
+
+    go : (x : Bool) → same_save s r ≡ x → cond x true (is_open s ws) ≡ true → (is_open s ws ≡ true → put_back s (copy_named s M.kept) M ≡ apply (undo s ws) N)
+        → put_back s (cond (same_save s r) (Some M.locals) (copy_named s M.kept)) (record M { kept = (r, M.locals) ∷ M.kept }) ≡ apply (cond x ws (undo s ws)) N
+    go true e h ih =
+        ap (λ x. put_back s (cond x (Some M.locals) (copy_named s M.kept)) (record M { kept = (r, M.locals) ∷ M.kept })) e
+        ∙ ap (λ x. record M { strings = keep s M.strings; kept = cond x M.kept (older_than s M.kept) }) e
+        ∙ ap (λ m. record M { strings = m }) (keep_all s M.strings (λ c n. (f.1.0 c (ap (newer c) (sym (save_is s r e)) ∙ n)).1))
+    go false e h ih =
+        let o = opened s ws N f.2 h in
+        ap (λ x. put_back s (cond x (Some M.locals) (copy_named s M.kept)) (record M { kept = (r, M.locals) ∷ M.kept })) e
+        ∙ ap (λ o. put_back s o (record M { kept = (r, M.locals) ∷ M.kept })) o.named
+        ∙ ap (λ x. record M { locals = o.copy; strings = keep s M.strings; kept = cond x M.kept (older_than s M.kept) }) e
+        ∙ ap (λ o. put_back s o M) (sym o.named)
+        ∙ ih h
+undone s (fresh c sh ∷ ws) N f h =
+    let o = opened s ws N f.2 h in
+    let ih = ap (λ x. put_back s x (apply ws N)) (sym o.named) ∙ undone s ws N f.2 h in
+    ap (λ x. put_back s x (do_fresh c sh (apply ws N))) (ap (copy_named s) (kept_fresh c sh (apply ws N)) ∙ o.named)
+    ∙ back_fresh s o.copy c sh (apply ws N) (λ g. newer_than_named s c (apply ws N).kept o.copy (f.1.1 g) o.named)
+    ∙ go (is_global c) o.copy ih
+  where
+    go : (x : Bool) (C : Cells) → put_back s (Some C) (apply ws N) ≡ apply (undo s ws) N → cond x (do_fresh c sh (put_back s (Some C) (apply ws N))) (put_back s (Some C) (apply ws N)) ≡ apply (cond x (fresh c sh ∷ undo s ws) (undo s ws)) N
+    go true C ih = ap (do_fresh c sh) ih
+    go false C ih = ih
+undone s (store l v ∷ ws) N f h =
+    let o = opened s ws N f.2 h in
+    let ih = ap (λ x. put_back s x (apply ws N)) (sym o.named) ∙ undone s ws N f.2 h in
+    ap (λ x. put_back s x (do_store (spot_of l) v (apply ws N))) (ap (copy_named s) (kept_store (spot_of l) v (apply ws N)) ∙ o.named)
+    ∙ back_store s o.copy (spot_of l) v (apply ws N)
+    ∙ go (outlives s (spot_of l)) o.copy ih
+  where
+    go : (x : Bool) (C : Cells) → put_back s (Some C) (apply ws N) ≡ apply (undo s ws) N → cond x (do_store (spot_of l) v (put_back s (Some C) (apply ws N))) (put_back s (Some C) (apply ws N)) ≡ apply (cond x (store l v ∷ undo s ws) (undo s ws)) N
+    go true C ih = ap (do_store (spot_of l) v) ih
+    go false C ih = ih
+undone s (restore r ∷ ws) N f h = absurd (true≢false (sym f.0))
+undone s (tell x ∷ ws) N f h = absurd (true≢false (sym f.0))
+
+-- ---- what is left still meets its conditions
+
+no_content : (x : Option Content) → shape_in (in_content x whole) ≡ None → x ≡ None
+no_content None e = refl
+no_content (Some (dictionary n a es)) e = cc
+no_content (Some (items xs)) e = cc
+no_content (Some (characters n)) e = cc
+
+unused_after : (s : SaveName) (C : Cells) (M : Memory) (c : Cell) → ((d : Cell) → get M.locals d ≡ None → get C d ≡ None) → IsUnused M c → IsUnused (put_back s (Some C) M) c
+unused_after s C M c within u d p q = ap shape_in (restored s C M (held d whole)) ∙ go (is_global d) refl (u d p q)
+  where
+    go : (x : Bool) → is_global d ≡ x → shape_in (in_content (get (cond x M.globals M.locals) d) whole) ≡ None
+        → shape_in (cond x (in_content (get (cond x M.globals M.locals) d) whole) (in_content (get C d) whole)) ≡ None
+    go true e h = h
+    go false e h = ap (λ o. shape_in (in_content o whole)) (within d (no_content (get M.locals d) h))
+
+place_after : (s : SaveName) (C : Cells) (M : Memory) (p : Spot) → outlives s p ≡ true → is_place M p ≡ true → is_place (put_back s (Some C) M) p ≡ true
+place_after s C M (held c t) e h = go (is_global c) e h
+  where
+    go : (x : Bool) → x ≡ true → is_slot (get (cond x M.globals M.locals) c) t ≡ true → is_slot (get (cond x M.globals C) c) t ≡ true
+    go true e h = h
+    go false e h = absurd (true≢false (sym e))
+place_after s C M (byte c i) e h = ap (λ o. is_byte o i) (string_kept s c M.strings) ∙ go (newer c s) e
+  where
+    go : (x : Bool) → not x ≡ true → is_byte (cond (not x) (get M.strings c) None) i ≡ true
+    go true e = absurd (true≢false (sym e))
+    go false e = h
+place_after s C M rand e h = h
+place_after s C M paper e h = h
+
+pub applicable_undo : (s : SaveName) (ws : List Action) (N : Memory) → Applicable ws N → is_open s ws ≡ true → Applicable (undo s ws) N
+applicable_undo s [] N f h = absurd (true≢false (sym h))
+applicable_undo s (save r ∷ ws) N f h = go (same_save s r) h (applicable_undo s ws N f.2)
+  where
+    go : (x : Bool) → cond x true (is_open s ws) ≡ true → (is_open s ws ≡ true → Applicable (undo s ws) N) → Applicable (cond x ws (undo s ws)) N
+    go true h ih = f.2
+    go false h ih = ih h
+applicable_undo s (fresh c sh ∷ ws) N f h = go (is_global c) refl (applicable_undo s ws N f.2 h)
+  where
+    o : Opened s (apply ws N)
+    o = opened s ws N f.2 h
+
+    back : put_back s (Some o.copy) (apply ws N) ≡ apply (undo s ws) N
+    back = ap (λ x. put_back s x (apply ws N)) (sym o.named) ∙ undone s ws N f.2 h
+
+    go : (x : Bool) → is_global c ≡ x → Applicable (undo s ws) N → Applicable (cond x (fresh c sh ∷ undo s ws) (undo s ws)) N
+    go true e ih = (refl, (subst (λ M. IsUnused M c) back (unused_after s o.copy (apply ws N) c o.within f.1.0), λ g. absurd (true≢false (sym e ∙ g))), ih)
+    go false e ih = ih
+applicable_undo s (store l v ∷ ws) N f h = go (outlives s (spot_of l)) refl (applicable_undo s ws N f.2 h)
+  where
+    o : Opened s (apply ws N)
+    o = opened s ws N f.2 h
+
+    back : put_back s (Some o.copy) (apply ws N) ≡ apply (undo s ws) N
+    back = ap (λ x. put_back s x (apply ws N)) (sym o.named) ∙ undone s ws N f.2 h
+
+    go : (x : Bool) → outlives s (spot_of l) ≡ x → Applicable (undo s ws) N → Applicable (cond x (store l v ∷ undo s ws) (undo s ws)) N
+    go true e ih = (refl, (subst (λ M. is_place M (spot_of l) ≡ true) back (place_after s o.copy (apply ws N) (spot_of l) e f.1.0), f.1.1), ih)
+    go false e ih = ih
+applicable_undo s (restore r ∷ ws) N f h = absurd (true≢false (sym f.0))
+applicable_undo s (tell x ∷ ws) N f h = absurd (true≢false (sym f.0))

@@ -1,0 +1,37 @@
+//! Memory, and what a run does to it.
+#![tactic(auto)]
+
+ghost use Rattle.std.specs.Prelude.{◌≡◌};
+ghost use Rattle.ps_memory.specs.Frame.{FrameLaw};
+ghost use Rattle.ps_memory.specs.Order.{cell_cmp, key_cmp};
+ghost use Rattle.ps_memory.specs.Track.{TrackLaw};
+ghost use Rattle.ps_memory.specs.Writes.{CertificateLaw, ReplacingLaw};
+
+use ps_objects::{Cell, Key};
+
+/// Cells are in the order of their sections, then of their counts, and keys in the order of the language's kinds.
+pub fn orders()
+    ensures cells { cell_cmp ≡ ⟦<Cell as Ord>⟧.cmp }
+    ensures keys { key_cmp ≡ ⟦<Key as Ord>⟧.cmp }
+{}
+
+/// What a run doesn't look at doesn't matter to it.
+pub fn frame_law<A>()
+    ensures { FrameLaw A }
+{}
+
+/// A run that is told by what it looked at and what it wrote holds on each memory with these values: the same result and
+/// outputs, and writes that can be done there and give the memory after it.
+pub fn certificate_law<A>()
+    ensures { CertificateLaw A }
+{}
+
+/// A store may take the place of an earlier one among the writes.
+pub fn replacing_law()
+    ensures { ReplacingLaw }
+{}
+
+/// What is known of a run as it goes on, from its looks and actions alone, is what its trail tells.
+pub fn track_law<A>()
+    ensures { TrackLaw A }
+{}
