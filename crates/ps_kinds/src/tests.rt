@@ -111,11 +111,13 @@ fn copies_are_equal(rt: HostRuntime) -> Result<(), Fail> {
     };
     let copy = regs.copy()?;
     assert!(rt; copy == regs);
+    assert!(rt; copy.first_difference(&regs) == None);
     let changed = Regs {
         global: false,
         ..copy
     };
     assert!(rt; changed != regs);
+    assert!(rt; changed.first_difference(&regs) == Some(RegField::Global));
     let state = running(&rt, regs)?;
     let copy = state.copy()?;
     assert!(rt; copy.regs == state.regs);
