@@ -1,6 +1,7 @@
 //! What an operator answers.
+ghost use Rattle.std.specs.Prelude.{◌≡◌, IfOk};
 
-use crate::{ErrorName, Frame, SaveName, Text};
+use crate::{ErrorName, Frame, NoMemory, SaveName, Text};
 
 /// What is to be done after an operator or a step.
 #[derive(Drop)]
@@ -24,4 +25,22 @@ pub enum Act {
 
     /// A restore of a save that was made outside of the page.
     Outer { save: SaveName },
+}
+
+impl Act {
+    pub fn copy(&self) -> Result<Act, NoMemory>
+        ensures { IfOk result (λ act. act ≡ self.now) }
+    {
+        Ok(match self {
+            Act::Done => Act::Done,
+            Act::Body(frame) => Act::Body(frame.copy()?),
+            Act::Fail(error) => Act::Fail(*error),
+            Act::Exit => Act::Exit,
+            Act::Stop => Act::Stop,
+            Act::Quit => Act::Quit,
+            Act::Say(text) => Act::Say(text.copy()?),
+            Act::Show { wipe } => Act::Show { wipe: *wipe },
+            Act::Outer { save } => Act::Outer { save: *save },
+        })
+    }
 }

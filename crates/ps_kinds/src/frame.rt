@@ -1,8 +1,11 @@
 //! Frames.
-ghost use Rattle.std.specs.Prelude.{◌≡◌};
+ghost use Rattle.std.specs.Prelude.{◌≡◌, IfOk};
 ghost use Rattle.ps_kinds.specs.Frames.{frame_room};
 
-use crate::{ErrorName, Key, Matrix, Object, Path, Real, Sequence, Stack, Text};
+use crate::{
+    Boxed, Duplicate, ErrorName, Key, Matrix, NoMemory, Object, Path, Real, Sequence, ShowRun,
+    Stack, Text,
+};
 
 /// One running procedure, string, loop, `stopped`, show, image or path walk, with the objects that it keeps.
 #[derive(Drop)]
@@ -59,9 +62,74 @@ pub enum Frame {
         body: Object,
     },
     Stopped,
-    Show(Box<ShowRun>),
-    Image(Box<ImageRun>),
-    Walk(Box<PathWalk>),
+    Show(Boxed<ShowRun>),
+    Image(Boxed<ImageRun>),
+    Walk(Boxed<PathWalk>),
+}
+
+impl Frame {
+    pub fn copy(&self) -> Result<Frame, NoMemory>
+        ensures { IfOk result (λ frame. frame ≡ self.now) }
+    {
+        Ok(match self {
+            Frame::Proc { body, at } => Frame::Proc {
+                body: body.copy()?,
+                at: *at,
+            },
+            Frame::Text {
+                string,
+                bytes,
+                place,
+            } => Frame::Text {
+                string: string.copy()?,
+                bytes: bytes.copy()?,
+                place: *place,
+            },
+            Frame::For {
+                body,
+                next,
+                increment,
+                limit,
+                whole,
+            } => Frame::For {
+                body: body.copy()?,
+                next: *next,
+                increment: *increment,
+                limit: *limit,
+                whole: *whole,
+            },
+            Frame::Repeat { body, left } => Frame::Repeat {
+                body: body.copy()?,
+                left: *left,
+            },
+            Frame::Loop { body } => Frame::Loop { body: body.copy()? },
+            Frame::Items { array, at, body } => Frame::Items {
+                array: array.copy()?,
+                at: *at,
+                body: body.copy()?,
+            },
+            Frame::Bytes { string, at, body } => Frame::Bytes {
+                string: string.copy()?,
+                at: *at,
+                body: body.copy()?,
+            },
+            Frame::Pairs { pairs, at, body } => Frame::Pairs {
+                pairs: pairs.copy()?,
+                at: *at,
+                body: body.copy()?,
+            },
+            Frame::Stopped => Frame::Stopped,
+            Frame::Show(run) => Frame::Show(run.copy()?),
+            Frame::Image(run) => Frame::Image(run.copy()?),
+            Frame::Walk(walk) => Frame::Walk(walk.copy()?),
+        })
+    }
+}
+
+impl Duplicate for Frame {
+    fn duplicate(&self) -> Result<Frame, NoMemory> {
+        self.copy()
+    }
 }
 
 /// The execution stack, the newest frame first.
@@ -88,86 +156,21 @@ pub struct Pair {
     pub value: Object,
 }
 
-/// A distance in user space or in a font's space.
-#[derive(Clone, Copy, PartialEq, Eq)]
-pub struct Offset {
-    pub x: Real,
-    pub y: Real,
+impl Pair {
+    pub fn copy(&self) -> Result<Pair, NoMemory>
+        ensures { IfOk result (λ pair. pair ≡ self.now) }
+    {
+        Ok(Pair {
+            key: self.key.copy()?,
+            value: self.value.copy()?,
+        })
+    }
 }
 
-/// A string that is shown.
-#[derive(Drop)]
-pub struct ShowRun {
-    pub string: Object,
-
-    /// The place of the glyph that is next or running.
-    pub at: u32,
-    pub form: ShowForm,
-    pub phase: ShowPhase,
-}
-
-/// The operator that shows a string, with its operands.
-#[derive(Drop)]
-pub enum ShowForm {
-    Show,
-
-    /// `ashow` adds `each` after each glyph.
-    Ashow {
-        each: Offset,
-    },
-
-    /// `widthshow` adds `extra` after each glyph of the code.
-    Widthshow {
-        extra: Offset,
-        code: i32,
-    },
-    Awidthshow {
-        extra: Offset,
-        code: i32,
-        each: Offset,
-    },
-
-    /// `kshow` runs a procedure between two glyphs.
-    Kshow {
-        procedure: Object,
-    },
-
-    /// `stringwidth` paints nothing. `sum` is the width so far.
-    Stringwidth {
-        sum: Offset,
-    },
-}
-
-/// What a show does next.
-#[derive(Clone, Copy, PartialEq, Eq)]
-pub enum ShowPhase {
-    /// The glyph at the place begins. While a frame stands above, the procedure of a `kshow` runs.
-    Before,
-
-    /// The procedure of the glyph at the place runs.
-    Running(Glyph),
-
-    /// The procedure of a `kshow` is called before the glyph at the place.
-    Between,
-}
-
-/// A glyph whose procedure runs.
-#[derive(Clone, Copy, PartialEq, Eq)]
-pub struct Glyph {
-    /// The number of layers on the graphics stack below the base layer that the glyph's beginning pushed.
-    pub depth: usize,
-
-    /// The count of cells and saves when the glyph began.
-    pub began: u32,
-
-    /// The font's matrix.
-    pub matrix: Matrix,
-
-    /// What `setcharwidth` or `setcachedevice` set.
-    pub width: Option<Offset>,
-
-    /// Whether `setcachedevice` was called.
-    pub cached: bool,
+impl Duplicate for Pair {
+    fn duplicate(&self) -> Result<Pair, NoMemory> {
+        self.copy()
+    }
 }
 
 /// An image whose data comes from a procedure.
@@ -191,6 +194,29 @@ pub struct ImageRun {
     pub called: bool,
 }
 
+impl ImageRun {
+    pub fn copy(&self) -> Result<ImageRun, NoMemory>
+        ensures { IfOk result (λ run. run ≡ self.now) }
+    {
+        Ok(ImageRun {
+            width: self.width,
+            height: self.height,
+            bits: self.bits,
+            matrix: self.matrix,
+            samples: self.samples,
+            procedure: self.procedure.copy()?,
+            data: self.data.copy()?,
+            called: self.called,
+        })
+    }
+}
+
+impl Duplicate for ImageRun {
+    fn duplicate(&self) -> Result<ImageRun, NoMemory> {
+        self.copy()
+    }
+}
+
 /// What the samples of an image mean.
 #[derive(Clone, Copy, PartialEq, Eq)]
 pub enum Samples {
@@ -212,4 +238,25 @@ pub struct PathWalk {
     pub line_to: Object,
     pub curve_to: Object,
     pub close_path: Object,
+}
+
+impl PathWalk {
+    pub fn copy(&self) -> Result<PathWalk, NoMemory>
+        ensures { IfOk result (λ walk. walk ≡ self.now) }
+    {
+        Ok(PathWalk {
+            path: self.path.copy()?,
+            at: self.at,
+            move_to: self.move_to.copy()?,
+            line_to: self.line_to.copy()?,
+            curve_to: self.curve_to.copy()?,
+            close_path: self.close_path.copy()?,
+        })
+    }
+}
+
+impl Duplicate for PathWalk {
+    fn duplicate(&self) -> Result<PathWalk, NoMemory> {
+        self.copy()
+    }
 }

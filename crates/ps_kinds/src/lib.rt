@@ -2,19 +2,19 @@
 #![tactic(auto)]
 
 mod act;
+mod boxed;
 mod frame;
 mod graphics;
 mod ranges;
 mod regs;
+mod show;
 mod state;
 #[cfg(test)]
 mod tests;
 
 pub use act::Act;
-pub use frame::{
-    FRAME_LIMIT, Frame, Frames, Glyph, ImageRun, Offset, Pair, PathWalk, Samples, ShowForm,
-    ShowPhase, ShowRun, room_for_frame,
-};
+pub use boxed::Boxed;
+pub use frame::{FRAME_LIMIT, Frame, Frames, ImageRun, Pair, PathWalk, Samples, room_for_frame};
 pub use graphics::{Colour, GStack, GState, Layer};
 pub use ps_objects::{
     Access, Cell, DICT_STACK_LIMIT, DictStack, Duplicate, ErrorName, FIRST_DEFAULT_ENTRY, FileName,
@@ -28,4 +28,5 @@ pub use ps_shapes::{
 };
 pub use ranges::{Component, Lengths, LineCap, LineJoin, LineWidth, MiterLimit, PageSide};
 pub use regs::{Pages, Papers, RegField, Regs, SaveMark, Saves};
+pub use show::{Glyph, Offset, ShowForm, ShowPhase, ShowRun};
 pub use state::{State, state_may_be_shared};

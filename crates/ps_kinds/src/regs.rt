@@ -1,5 +1,6 @@
 //! Registers.
 ghost use Rattle.std.specs.Prelude.{◌≡◌, IfOk};
+ghost use Rattle.ps_kinds.specs.Registers.{field_or};
 
 use crate::{
     DictStack, Duplicate, GStack, GState, NoMemory, Objects, Paper, SaveName, Sequence, Stack,
@@ -86,4 +87,28 @@ impl Regs {
             packing: self.packing,
         })
     }
+}
+
+impl Regs {
+    ghost use Rattle.ps_kinds.specs.Registers.{first_difference};
+
+    /// The first field that differs, in the order of the fields.
+    pub fn first_difference(&self, other: &Regs) -> Option<RegField>
+        ensures { result ≡ first_difference self.now other.now }
+    {
+        let packing = field_or(self.packing == other.packing, RegField::Packing, None);
+        let global = field_or(self.global == other.global, RegField::Global, packing);
+        let saves = field_or(self.saves == other.saves, RegField::Saves, global);
+        let states = field_or(self.states == other.states, RegField::States, saves);
+        let state = field_or(self.state == other.state, RegField::State, states);
+        let dicts = field_or(self.dicts == other.dicts, RegField::Dicts, state);
+        field_or(self.operands == other.operands, RegField::Operands, dicts)
+    }
+}
+
+/// The field, where it is not the same, and else what comes later.
+fn field_or(same: bool, field: RegField, later: Option<RegField>) -> Option<RegField>
+    ensures { result ≡ field_or same field later }
+{
+    if same { later } else { Some(field) }
 }

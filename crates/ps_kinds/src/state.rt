@@ -1,6 +1,7 @@
 //! The state of a section.
+ghost use Rattle.std.specs.Prelude.{◌≡◌, IfOk};
 
-use crate::{Frames, Regs, SectionKind, Settings};
+use crate::{Frames, NoMemory, Regs, SectionKind, Settings};
 
 /// What a section holds while it runs, besides memory.
 #[derive(Drop)]
@@ -27,6 +28,27 @@ pub struct State {
     /// Where in the section's text scanning goes on.
     pub place: u64,
     pub frames: Frames,
+}
+
+impl State {
+    pub fn copy(&self) -> Result<State, NoMemory>
+        ensures { IfOk result (λ state. state ≡ self.now) }
+    {
+        Ok(State {
+            regs: self.regs.copy()?,
+            settings: self.settings,
+            moment: self.moment,
+            section: self.section,
+            kind: self.kind,
+            count: self.count,
+            turns: self.turns,
+            units: self.units,
+            shows: self.shows,
+            said: self.said,
+            place: self.place,
+            frames: self.frames.copy()?,
+        })
+    }
 }
 
 fn may_be_shared<T: Send + Sync>(_value: &T) {}

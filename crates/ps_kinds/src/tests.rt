@@ -45,6 +45,42 @@ fn start(rt: &HostRuntime) -> GState {
     }
 }
 
+/// A section's state, with a string and a shown string that run.
+fn running(rt: &HostRuntime, regs: Regs) -> Result<State, NoMemory> {
+    let mut frames = Frames::new(rt.alloc());
+    frames.push(Frame::Text {
+        string: null(),
+        bytes: Text::from_bytes(rt.alloc(), b"add")?,
+        place: 2,
+    })?;
+    let run = ShowRun {
+        string: null(),
+        at: 3,
+        form: ShowForm::Kshow { procedure: null() },
+        phase: ShowPhase::Between,
+    };
+    frames.push(Frame::Show(Boxed::new(rt.alloc(), run)?))?;
+    Ok(State {
+        regs,
+        settings: Settings {
+            dpi: 72,
+            width: 612,
+            height: 792,
+            keep: false,
+        },
+        moment: 9,
+        section: 1,
+        kind: SectionKind::Page,
+        count: 5,
+        turns: 6,
+        units: 7,
+        shows: 1,
+        said: 0,
+        place: 8,
+        frames,
+    })
+}
+
 #[test]
 fn copies_are_equal(rt: HostRuntime) -> Result<(), Fail> {
     let state = start(&rt);
@@ -75,11 +111,26 @@ fn copies_are_equal(rt: HostRuntime) -> Result<(), Fail> {
     };
     let copy = regs.copy()?;
     assert!(rt; copy == regs);
+    assert!(rt; copy.first_difference(&regs) == None);
     let changed = Regs {
         global: false,
         ..copy
     };
     assert!(rt; changed != regs);
+    assert!(rt; changed.first_difference(&regs) == Some(RegField::Global));
+    let state = running(&rt, regs)?;
+    let copy = state.copy()?;
+    assert!(rt; copy.regs == state.regs);
+    assert!(rt; copy.count == 5);
+    assert!(rt; copy.frames.len() == 2);
+    assert!(rt; matches!(copy.frames.get(0), Some(Frame::Show(run)) if run.as_ref().at == 3));
+    assert!(rt;
+        matches!(copy.frames.get(1), Some(Frame::Text { bytes, .. }) if bytes.as_slice() == b"add".as_slice())
+    );
+    let boxed = Boxed::new(rt.alloc(), 4u32)?;
+    assert!(rt; boxed.copy()?.into_inner() == 4);
+    let said = Act::Say(Text::from_bytes(rt.alloc(), b"done")?);
+    assert!(rt; matches!(said.copy()?, Act::Say(text) if text.as_slice() == b"done".as_slice()));
     assert!(rt; room_for_frame(&Frames::new(rt.alloc())) == Ok(()));
     Ok(())
 }
