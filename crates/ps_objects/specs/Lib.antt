@@ -1,1 +1,4 @@
+pub mod Cell
 pub mod ErrorName
+pub mod Op
+pub mod Turned
