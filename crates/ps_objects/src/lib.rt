@@ -8,6 +8,7 @@ mod error_name;
 mod key;
 mod name;
 mod object;
+mod objects;
 mod op;
 mod place;
 mod refusal;
@@ -23,6 +24,9 @@ pub use error_name::ErrorName;
 pub use key::{Key, Keys};
 pub use name::Name;
 pub use object::{Kind, Object};
+pub use objects::{
+    DICT_STACK_LIMIT, DictStack, FileName, Interval, Number, OPERAND_LIMIT, Objects,
+};
 pub use op::{FIRST_DEFAULT_ENTRY, OPERATOR_COUNT, Op};
 pub use place::{Loc, Shape, Value};
 pub use ps_shapes::{Matrix, NoMemory, Real};
