@@ -1,11 +1,37 @@
 //! The objects of the language, and the names, keys, places and values that memory holds of them.
 #![tactic(auto)]
 
+mod access;
+mod cell;
+mod duplicate;
 mod error_name;
+mod key;
 mod name;
+mod object;
+mod objects;
+mod op;
+mod place;
+mod refusal;
 mod section;
+mod settings;
+mod stack;
+mod text;
 
+pub use access::Access;
+pub use cell::{Cell, SaveName, Space};
+pub use duplicate::Duplicate;
 pub use error_name::ErrorName;
+pub use key::{Key, Keys};
 pub use name::Name;
+pub use object::{Kind, Object};
+pub use objects::{
+    DICT_STACK_LIMIT, DictStack, FileName, Interval, Number, OPERAND_LIMIT, Objects,
+};
+pub use op::{FIRST_DEFAULT_ENTRY, OPERATOR_COUNT, Op};
+pub use place::{Loc, Shape, Value};
 pub use ps_shapes::{Matrix, NoMemory, Real};
+pub use refusal::Refusal;
 pub use section::SectionKind;
+pub use settings::Settings;
+pub use stack::Stack;
+pub use text::Text;

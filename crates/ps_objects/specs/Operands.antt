@@ -1,0 +1,114 @@
+-- What an operator reads of its operands, the newest first: an operand, or the error of one that is absent or of another type.
+use Rattle.std.specs.Prelude.{ℕ, ℤ, ◌+◌, Bool, true, false, List, length, nat_lt, slice_get, if◌then◌else◌, Some, None, Result, Ok, Err}
+use Rattle.ps_objects.specs.Access.{read_right, write_right, run_right}
+use Rattle.ps_objects.specs.declared.access.Access.{Access}
+use Rattle.ps_objects.specs.declared.cell.Cell.{Cell}
+use Rattle.ps_objects.specs.declared.cell.SaveName.{SaveName}
+use Rattle.ps_objects.specs.declared.error_name.ErrorName.{ErrorName}
+use Rattle.ps_objects.specs.declared.error_name.ErrorName.TheVariants.{DictStackOverflow, StackUnderflow, StackOverflow, TypeCheck}
+use Rattle.ps_objects.specs.declared.object.Object.{Object}
+use Rattle.ps_objects.specs.declared.object.Kind.{Kind}
+use Rattle.ps_objects.specs.declared.object.Kind.TheVariants as kind
+use Rattle.ps_objects.specs.declared.objects.FileName.{FileName}
+use Rattle.ps_objects.specs.declared.objects.Interval.{Interval}
+use Rattle.ps_objects.specs.declared.objects.Number.{Number}
+use Rattle.ps_objects.specs.declared.objects.Number.TheVariants as number
+
+-- n operands are there
+abbrev pub needed : ℕ → List Object → Result (Unit {0}) ErrorName
+needed n xs = if nat_lt (length xs) n then Err StackUnderflow else Ok tt
+
+-- at most 5000 operands, with n more
+abbrev pub room_for : ℕ → List Object → Result (Unit {0}) ErrorName
+room_for n xs = if nat_lt 5000 (length xs + n) then Err StackOverflow else Ok tt
+
+-- fewer than 100 dictionaries
+abbrev pub dict_room : List Cell → Result (Unit {0}) ErrorName
+dict_room cells = if nat_lt (length cells) 100 then Ok tt else Err DictStackOverflow
+
+abbrev pub object_at : ℕ → List Object → Result Object ErrorName
+object_at depth xs = elim (slice_get xs depth) [ None ↦ Err StackUnderflow | Some x ↦ Ok x ]
+
+-- what is read of an operand
+abbrev pub operand : {A : Type 0} → (Object → Result A ErrorName) → ℕ → List Object → Result A ErrorName
+operand read depth xs = elim (object_at depth xs) [ Err e ↦ Err e | Ok x ↦ read x ]
+
+-- what is read of an operand of a type
+abbrev pub typed : {A : Type 0} → (Kind → Result A ErrorName) → ℕ → List Object → Result A ErrorName
+typed read depth xs = elim (object_at depth xs) [ Err e ↦ Err e | Ok x ↦ read x.kind ]
+
+abbrev pub integer_of : Kind → Result ℤ ErrorName
+integer_of (kind.Integer n) = Ok n
+integer_of _ = Err TypeCheck
+
+abbrev pub boolean_of : Kind → Result Bool ErrorName
+boolean_of (kind.Boolean b) = Ok b
+boolean_of _ = Err TypeCheck
+
+abbrev pub number_of : Kind → Result Number ErrorName
+number_of (kind.Integer n) = Ok (number.Integer n)
+number_of (kind.Real r) = Ok (number.Real r)
+number_of _ = Err TypeCheck
+
+abbrev pub dict_of : Kind → Result Cell ErrorName
+dict_of (kind.Dict cell) = Ok cell
+dict_of _ = Err TypeCheck
+
+abbrev pub array_of : Kind → Result Interval ErrorName
+array_of (kind.Array cell start len _) = Ok (record { cell = cell; start = start; len = len })
+array_of _ = Err TypeCheck
+
+abbrev pub string_of : Kind → Result Interval ErrorName
+string_of (kind.Str cell start len) = Ok (record { cell = cell; start = start; len = len })
+string_of _ = Err TypeCheck
+
+-- the text of a section is layer 0
+abbrev pub file_of : Kind → Result FileName ErrorName
+file_of (kind.File section) = Ok (record { section = section; layer = 0 })
+file_of (kind.Filter section layer) = Ok (record { section = section; layer = layer })
+file_of _ = Err TypeCheck
+
+abbrev pub save_of : Kind → Result SaveName ErrorName
+save_of (kind.Save save) = Ok save
+save_of _ = Err TypeCheck
+
+-- an executable array
+abbrev pub procedure_of : Object → Result Interval ErrorName
+procedure_of x = if x.exec then array_of x.kind else Err TypeCheck
+
+abbrev pub integer_at : ℕ → List Object → Result ℤ ErrorName
+integer_at = typed integer_of
+
+abbrev pub boolean_at : ℕ → List Object → Result Bool ErrorName
+boolean_at = typed boolean_of
+
+abbrev pub number_at : ℕ → List Object → Result Number ErrorName
+number_at = typed number_of
+
+abbrev pub dict_at : ℕ → List Object → Result Cell ErrorName
+dict_at = typed dict_of
+
+abbrev pub array_at : ℕ → List Object → Result Interval ErrorName
+array_at = typed array_of
+
+abbrev pub string_at : ℕ → List Object → Result Interval ErrorName
+string_at = typed string_of
+
+abbrev pub file_at : ℕ → List Object → Result FileName ErrorName
+file_at = typed file_of
+
+abbrev pub save_at : ℕ → List Object → Result SaveName ErrorName
+save_at = typed save_of
+
+abbrev pub procedure_at : ℕ → List Object → Result Interval ErrorName
+procedure_at = operand procedure_of
+
+-- what the access of an operand lets be done with it
+abbrev pub readable_at : ℕ → List Object → Result (Unit {0}) ErrorName
+readable_at = operand (λ x. read_right x.access)
+
+abbrev pub writable_at : ℕ → List Object → Result (Unit {0}) ErrorName
+writable_at = operand (λ x. write_right x.access)
+
+abbrev pub runnable_at : ℕ → List Object → Result (Unit {0}) ErrorName
+runnable_at = operand (λ x. run_right x.access)

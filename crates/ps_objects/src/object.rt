@@ -1,0 +1,109 @@
+//! Objects.
+ghost use Rattle.std.specs.Prelude.{◌≡◌, IfOk};
+
+use crate::{Access, Cell, Duplicate, Name, NoMemory, Op, Real, SaveName};
+
+/// The type of an object, and its value or the cell that holds it. A string or an array is an interval of a cell.
+#[derive(PartialEq, Eq, Drop)]
+pub enum Kind {
+    Integer(i32),
+    Real(Real),
+    Boolean(bool),
+    Null,
+    Mark,
+    Name(Name),
+    Operator(Op),
+    Str {
+        cell: Cell,
+        start: u32,
+        len: u32,
+    },
+    Array {
+        cell: Cell,
+        start: u32,
+        len: u32,
+        packed: bool,
+    },
+    Dict(Cell),
+
+    /// The text of a section.
+    File {
+        section: u32,
+    },
+
+    /// A decoding filter over the text of a section, or over a lower layer; the lowest layer is 1.
+    Filter {
+        section: u32,
+        layer: u32,
+    },
+    Save(SaveName),
+
+    /// What `definefont` stores as `FID` in the dictionary of this cell.
+    FontId(Cell),
+}
+
+/// An object, with its executable attribute and its access. A dictionary's access lies in its cell.
+#[derive(PartialEq, Eq, Drop)]
+pub struct Object {
+    pub kind: Kind,
+    pub exec: bool,
+    pub access: Access,
+}
+
+impl Kind {
+    pub fn copy(&self) -> Result<Kind, NoMemory>
+        ensures { IfOk result (λ kind. kind ≡ self.now) }
+    {
+        Ok(match self {
+            Kind::Integer(n) => Kind::Integer(*n),
+            Kind::Real(r) => Kind::Real(*r),
+            Kind::Boolean(b) => Kind::Boolean(*b),
+            Kind::Null => Kind::Null,
+            Kind::Mark => Kind::Mark,
+            Kind::Name(name) => Kind::Name(name.copy()?),
+            Kind::Operator(op) => Kind::Operator(*op),
+            Kind::Str { cell, start, len } => Kind::Str {
+                cell: *cell,
+                start: *start,
+                len: *len,
+            },
+            Kind::Array {
+                cell,
+                start,
+                len,
+                packed,
+            } => Kind::Array {
+                cell: *cell,
+                start: *start,
+                len: *len,
+                packed: *packed,
+            },
+            Kind::Dict(cell) => Kind::Dict(*cell),
+            Kind::File { section } => Kind::File { section: *section },
+            Kind::Filter { section, layer } => Kind::Filter {
+                section: *section,
+                layer: *layer,
+            },
+            Kind::Save(save) => Kind::Save(*save),
+            Kind::FontId(cell) => Kind::FontId(*cell),
+        })
+    }
+}
+
+impl Object {
+    pub fn copy(&self) -> Result<Object, NoMemory>
+        ensures { IfOk result (λ object. object ≡ self.now) }
+    {
+        Ok(Object {
+            kind: self.kind.copy()?,
+            exec: self.exec,
+            access: self.access,
+        })
+    }
+}
+
+impl Duplicate for Object {
+    fn duplicate(&self) -> Result<Object, NoMemory> {
+        self.copy()
+    }
+}

@@ -1,0 +1,97 @@
+//! Stacks.
+ghost use Rattle.std.specs.Prelude.{◌≡◌, ◌<◌, ◌≤◌, ◌==◌, List, [], ◌∷◌, length, drop, slice_get, option_copied, Some, MatchOption, IfOk, OnOk, OnErr, reverse};
+
+use crate::{Duplicate, NoMemory};
+use std::alloc::Global;
+use std::marker::Model;
+
+/// A stack, seen with the newest first.
+#[derive(Drop)]
+pub struct Stack<T: Drop> {
+    items: Vec<T>,
+}
+
+impl<T: Drop> Model for Stack<T> {
+    ghost use Rattle.std.specs.Prelude.{List, reverse};
+
+    ghost Value = { List T };
+
+    ghost view = { λ stack. reverse stack.items.items };
+}
+
+impl<T: Drop> Stack<T> {
+    pub fn new(alloc: Global) -> Stack<T>
+        ensures { result ≡ [] }
+    {
+        Stack {
+            items: Vec::new(alloc),
+        }
+    }
+
+    pub fn len(&self) -> usize
+        ensures { result ≡ length self.now }
+    {
+        self.items.len()
+    }
+
+    /// What is `depth` below the newest.
+    pub fn get(&self, depth: usize) -> Option<&T>
+        ensures { option_copied result ≡ slice_get self.now depth }
+    {
+        let len = self.items.len();
+        if depth < len {
+            Some(&self.items[len - 1 - depth])
+        } else {
+            None
+        }
+    }
+
+    /// What is `depth` below the newest.
+    pub fn at(&self, depth: usize) -> &T
+        requires { depth < length self.now }
+        ensures { slice_get self.now depth ≡ Some result.now }
+    {
+        &self.items[self.items.len() - 1 - depth]
+    }
+
+    pub fn push(&mut self, item: T) -> Result<(), NoMemory>
+        ensures ok { OnOk result (self.new ≡ item ∷ self.old) }
+        ensures err { OnErr result (self.new ≡ self.old) }
+    {
+        self.items.push(item)?;
+        Ok(())
+    }
+
+    pub fn pop(&mut self) -> Option<T>
+        ensures { MatchOption result ((self.old ≡ []) × (self.new ≡ [])) (λ x. self.old ≡ x ∷ self.new) }
+    {
+        self.items.pop()
+    }
+
+    pub fn clear(&mut self)
+        ensures { self.new ≡ [] }
+    {
+        self.items.clear();
+    }
+
+    /// Takes away the newest `n`.
+    pub fn shrink(&mut self, n: usize)
+        requires { n ≤ length self.old }
+        ensures { self.new ≡ drop n self.old }
+    {
+        let keep = self.items.len() - n;
+        self.items.truncate(keep);
+    }
+}
+
+impl<T: Drop + Duplicate> Stack<T> {
+    pub fn copy(&self) -> Result<Stack<T>, NoMemory>
+        ensures { IfOk result (λ stack. stack ≡ self.now) }
+    {
+        let mut items = Vec::new(*self.items.allocator());
+        for item in self.items.iter() {
+            items.push(item.duplicate()?)?;
+        }
+        Ok(Stack { items })
+    }
+}
