@@ -3,7 +3,11 @@
 
 mod characters;
 mod numbers;
+mod reals;
+mod rows;
 mod simple_texts;
+mod specials;
+mod strings;
 mod tokens;
 
 pub use simple_texts::simple;

@@ -1,0 +1,60 @@
+-- Significands and powers of ten.
+use Rattle.std.proofs.Common.{◌≡◌, ℕ, suc, ◌+◌, ◌-◌, ◌*◌, ◌^◌, ◌<◌, ◌≤◌, ◌⊎◌, inl, inr, min, Bool, true, false, ◌&&◌, cond, eqb, ltb, List, [], ◌∷◌, ◌++◌, length, take, drop, get_or, refl, ap, sym, subst, ◌∙◌, arith}
+use Rattle.std.specs.Prelude.{ℤ, pos, negsuc, neg_ℤ, ◌+ℤ◌, ◌-ℤ◌, ◌<ℤ◌, Ok, Err, filter}
+use Rattle.std.specs.Char.{is_ascii_digit, digit_value}
+use Rattle.std.specs.List.{prefix_len}
+use Rattle.std.specs.Str.Parse.{digits_value}
+use Rattle.std.proofs.lemmas.Bool.{cases_lt}
+use Rattle.std.proofs.lemmas.Int.{ints}
+use Rattle.std.proofs.lemmas.Int.Digits.{digits_value_push}
+use Rattle.std.proofs.lemmas.List.Elements.{filter_more}
+use Rattle.std.proofs.Math.Nat.{pow-suc, pow-le-pow_right}
+use Rattle.ps_fixed.specs.Decimals.{signed_by, decimal_of}
+use Rattle.ps_fixed.proofs.DecimalProofs.{too_great, too_small, nothing}
+use Rattle.ps_scan.specs.Numbers.{is_negative, unsigned, significant, significand}
+use Rattle.ps_scan.specs.Significands.{digit_behind, IsSignificand, capped_exponent, IsNear}
+use Rattle.ps_scan.specs.declared.reals.Significand.{Significand}
+
+-- a digit behind a number below a power of ten
+pub power_step : (value digit k : ℕ) → value < 10 ^ k → digit < 10 → value * 10 + digit < 10 ^ (k + 1)
+power_step value digit k h d = let e : 10 ^ (k + 1) ≡ 10 ^ k * 10 = ap (λ (j : ℕ). 10 ^ j) (omega arith) ∙ pow-suc 10 k in omega arith
+
+pub power_limit : (k : ℕ) → k ≤ 18 → 10 ^ k ≤ 10 ^ 18
+power_limit k h = pow-le-pow_right {n = 10} (omega arith) {i = k} {j = 18} h
+
+-- powers of ten beyond the range, and those that round to nothing
+decimal_beyond : (negative : Bool) (m : ℕ) (z : ℤ) → 0 < m → pos 12 <ℤ z → decimal_of negative m z ≡ Err (record {})
+decimal_beyond negative m (pos n) p h = too_great negative m n p (omega (arith, ints))
+decimal_beyond negative m (negsuc n) p h = absurd (omega (arith, ints))
+
+decimal_below : (negative : Bool) (m : ℕ) (z : ℤ) → m < 10 ^ 18 → z <ℤ negsuc 37 → decimal_of negative m z ≡ Ok (record { count = pos 0 })
+decimal_below negative m (pos n) p h = absurd (omega (arith, ints))
+decimal_below negative m (negsuc n) p h = too_small negative m (suc n) p (omega (arith, ints))
+
+pub decimal_near : (negative : Bool) (m : ℕ) (x y : ℤ) → m < 10 ^ 18 → IsNear x y → decimal_of negative m x ≡ decimal_of negative m y
+decimal_near negative m x y small (inl e) = ap (decimal_of negative m) e
+decimal_near negative m x y small (inr (inl h)) =
+    elim (cases_lt 0 m) [
+      | inl some ↦ decimal_beyond negative m x some h.0 ∙ sym (decimal_beyond negative m y some h.1)
+      | inr none ↦
+          let zero : m ≡ 0 = omega arith in
+          nothing negative m x zero ∙ sym (nothing negative m y zero)
+    ]
+decimal_near negative m x y small (inr (inr h)) = decimal_below negative m x small h.0 ∙ sym (decimal_below negative m y small h.1)
+
+-- a cap on an exponent far beyond the range changes nothing
+signed_near : (negative : Bool) (e f d : ℕ) → f < 2 ^ 63 → d < 2 ^ 63 →
+    IsNear (signed_by negative (min e (2 ^ 64 - 1)) -ℤ pos f +ℤ pos d) (signed_by negative e -ℤ pos f +ℤ pos d)
+signed_near negative e f d hf hd =
+    elim (cases_lt (2 ^ 64 - 1) e) [
+      | inl above ↦ beyond negative above
+      | inr within ↦ inl (ap (λ (k : ℕ). signed_by negative k -ℤ pos f +ℤ pos d) (omega arith))
+    ]
+  where
+    beyond : (negative : Bool) → 2 ^ 64 - 1 < e → IsNear (signed_by negative (min e (2 ^ 64 - 1)) -ℤ pos f +ℤ pos d) (signed_by negative e -ℤ pos f +ℤ pos d)
+    beyond true above =
+        let cut : min e (2 ^ 64 - 1) ≡ 2 ^ 64 - 1 = omega arith in
+        inr (inr (rw cut (omega (arith, ints)), omega (arith, ints)))
+    beyond false above =
+        let cut : min e (2 ^ 64 - 1) ≡ 2 ^ 64 - 1 = omega arith in
+        inr (inl (rw cut (omega (arith, ints)), omega (arith, ints)))
