@@ -1,11 +1,12 @@
 -- Strings that are read up to a limit.
 use Rattle.std.specs.Prelude.{◌≡◌, ℕ, ◌+◌, List, length, take, Option, Some, None}
+use Rattle.ps_scan.specs.Strings.{string_limit}
 use Rattle.ps_scan.specs.declared.strings.Limited.{Limited}
 use Rattle.ps_scan.specs.declared.strings.Body.{Body}
 
 -- these are the bytes: the text has those up to the limit
 pub record Keeps (limited : Limited) (bytes : List ℕ) : Type 0 where
-  pub text : limited.text ≡ take 65535 bytes
+  pub text : limited.text ≡ take string_limit bytes
   pub length : limited.length ≡ length bytes
 
 -- what was read is what stands there

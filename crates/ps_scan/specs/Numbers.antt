@@ -3,8 +3,8 @@ use Rattle.std.specs.Prelude.{ℕ, ◌+◌, ◌-◌, ◌^◌, ℤ, pos, neg_ℤ,
 use Rattle.std.specs.Char.{is_ascii_digit, digit_value}
 use Rattle.std.specs.List.{list_all, prefix_len, before_first, after_first}
 use Rattle.std.specs.Str.Parse.{digits_value}
-use Rattle.ps_shapes.specs.declared.numbers.Real.{Real}
-use Rattle.ps_fixed.specs.declared.rounding.Undefined.{Undefined}
+use Rattle.ps_objects.specs.declared.Real.{Real}
+use Rattle.ps_fixed.specs.declared.Undefined.{Undefined}
 use Rattle.ps_fixed.specs.Decimals.{signed_by, decimal_of}
 
 -- + and -

@@ -1,9 +1,13 @@
 -- What the bytes behind a parenthesis or an angle bracket spell.
-use Rattle.std.specs.Prelude.{◌≡◌, ℕ, ◌+◌, ◌-◌, ◌*◌, ◌%◌, ◌<◌, min, Bool, true, false, ◌&&◌, ◌||◌, ◌==◌, nat_lt, nat_le, List, [], ◌∷◌, length, take, filter, Option, Some, None, if◌then◌else◌}
+use Rattle.std.specs.Prelude.{ℕ, zero, suc, ◌+◌, ◌-◌, ◌*◌, ◌%◌, min, Bool, true, false, ◌&&◌, ◌||◌, ◌==◌, nat_lt, nat_le, List, [], ◌∷◌, length, take, filter, Option, Some, None, if◌then◌else◌}
 use Rattle.std.specs.Char.{digit_value}
 use Rattle.std.specs.List.{prefix_len}
 use Rattle.std.specs.Str.Parse.{digits_value}
 use Rattle.ps_scan.specs.Characters.{is_white}
+
+-- the bytes of a string, at most
+unfoldable pub string_limit : ℕ
+string_limit = 65535
 
 abbrev pub is_octal : ℕ → Bool
 is_octal b = nat_le 48 b && nat_le b 55
@@ -66,10 +70,10 @@ onto (Some b) (Some body) = Some (b ∷ body.0, body.1 + 1)
 -- belong to a piece that was read.
 unfoldable pub string_body : ℕ → ℕ → List ℕ → Option (List ℕ × ℕ)
 string_body depth passed [] = None
-string_body depth passed (b ∷ bs) =
-    if nat_lt 0 passed then onto None (string_body depth (passed - 1) bs)
-    else (if depth == 0 && b == 41 then Some ([], 1)
-    else onto (piece_byte (b ∷ bs)) (string_body (depth_after b depth) (piece_length (b ∷ bs) - 1) bs))
+string_body depth (suc passed) (b ∷ bs) = onto None (string_body depth passed bs)
+string_body depth zero (b ∷ bs) =
+    if depth == 0 && b == 41 then Some ([], 1)
+    else onto (piece_byte (b ∷ bs)) (string_body (depth_after b depth) (piece_length (b ∷ bs) - 1) bs)
 
 abbrev pub is_hex_digit : ℕ → Bool
 is_hex_digit b = nat_lt (digit_value b) 16

@@ -1,13 +1,13 @@
 -- The tokens of a text.
 use Rattle.std.specs.Prelude.{◌≡◌, ℕ, ◌+◌, ◌<◌, ◌≤◌, ℤ, Bool, true, false, ◌==◌, ◌||◌, nat_le, List, [], ◌∷◌, length, take, drop, Option, Some, None, Result, Ok, Err, if◌then◌else◌}
 use Rattle.std.specs.List.{prefix_len, before_first}
-use Rattle.ps_shapes.specs.declared.numbers.Real.{Real}
+use Rattle.ps_objects.specs.declared.Real.{Real}
 use Rattle.ps_objects.specs.declared.error_name.ErrorName.{ErrorName}
 use Rattle.ps_objects.specs.declared.error_name.ErrorName.TheVariants.{LimitCheck, SyntaxError}
-use Rattle.ps_fixed.specs.declared.rounding.Undefined.{Undefined}
+use Rattle.ps_fixed.specs.declared.Undefined.{Undefined}
 use Rattle.ps_scan.specs.Characters.{is_delimiter, blanks, closing}
 use Rattle.ps_scan.specs.Numbers.{is_integer, is_decimal, is_radix, integer_value, real_value, radix_value}
-use Rattle.ps_scan.specs.Strings.{string_body, is_hex, hex_bytes}
+use Rattle.ps_scan.specs.Strings.{string_limit, string_body, is_hex, hex_bytes}
 use Rattle.ps_scan.specs.declared.rows.NameKind.{NameKind}
 use Rattle.ps_scan.specs.declared.rows.NameKind.TheVariants as kind
 use Rattle.ps_scan.specs.declared.tokens.Token.{Token}
@@ -69,7 +69,7 @@ slash_at place (b ∷ bs) = if b == 47 then name_at kind.Immediate (place + 1) b
 
 -- a string has at most 65,535 bytes
 abbrev pub string_token : List ℕ → Result Token ErrorName
-string_token bytes = if nat_le (length bytes) 65535 then Ok (token.Str bytes) else Err LimitCheck
+string_token bytes = if nat_le (length bytes) string_limit then Ok (token.Str bytes) else Err LimitCheck
 
 abbrev pub body_token : ℕ → ℕ → Option (List ℕ × ℕ) → Scan
 body_token place end None = scan.Bad SyntaxError end

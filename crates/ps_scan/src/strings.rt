@@ -1,5 +1,6 @@
 //! What the bytes behind a parenthesis or an angle bracket spell.
-ghost use Rattle.std.specs.Prelude.{◌≡◌, ℕ, ◌+◌, ◌<◌, ◌≤◌, ◌^◌, ◌++◌, ◌∷◌, ◌==◌, List, [], length, take, filter, false, min, Option, option_to_list, IfOk, OnOk};
+ghost use Rattle.std.specs.Prelude.{◌≡◌, ℕ, ◌+◌, ◌<◌, ◌≤◌, ◌^◌, ◌++◌, ◌∷◌, ◌==◌, ◌&&◌, ◌*◌, List, [], length, take, filter, false, min, Option, option_to_list, IfOk, OnOk};
+ghost use Rattle.std.specs.Char.{digit_value};
 ghost use Rattle.std.specs.List.{prefix_len};
 ghost use Rattle.ps_scan.specs.Strings.{is_octal, octal_length, begins_with_feed, escape_length, escaped, escape_byte, piece_length, piece_byte, depth_after, string_body, is_hex_digit, is_hex, hex_bytes};
 ghost use Rattle.ps_scan.specs.Limited.{Keeps, IsBody};
@@ -87,6 +88,7 @@ fn escape_byte(text: &[u8]) -> Option<u8>
 #[tactic(auto, unfolding(crate::specs::Strings::piece_length))]
 fn piece_length(text: &[u8]) -> usize
     ensures length { result ≡ piece_length text.now }
+    ensures some { 0 < length text.now → 0 < result }
     ensures within { result ≤ length text.now }
 {
     let Some((first, rest)) = text.split_first() else {
@@ -125,6 +127,13 @@ fn depth_after(byte: u8, depth: usize) -> usize
     }
 }
 
+/// Whether a byte closes the string, where so many parentheses are open in it.
+fn is_closing(byte: u8, depth: usize) -> bool
+    ensures { result ≡ (depth == 0 && byte == 41) }
+{
+    depth == 0 && byte == b')'
+}
+
 /// A string that is being read: its bytes up to the limit, and how many it has.
 #[derive(Drop)]
 pub(crate) struct Limited {
@@ -147,10 +156,24 @@ impl Limited {
         ensures keeps { OnOk result ((bytes : List ℕ) → Keeps self.old bytes → Keeps self.new (bytes ++ byte ∷ [])) }
         ensures length { OnOk result (self.new.length ≡ self.old.length + 1) }
     {
-        if self.length < STRING_LIMIT {
-            self.text.push(byte)?;
+        if self.length >= STRING_LIMIT {
+            self.length += 1;
+            return Ok(());
         }
+        self.text.push(byte)?;
         self.length += 1;
+        Ok(())
+    }
+
+    /// Puts the byte of a piece, if any, behind the others.
+    fn push_piece(&mut self, byte: Option<u8>) -> Result<(), NoMemory>
+        requires { self.old.length < 2 ^ 63 }
+        ensures keeps { OnOk result ((bytes : List ℕ) → Keeps self.old bytes → Keeps self.new (bytes ++ option_to_list byte)) }
+        ensures length { OnOk result (self.new.length ≤ self.old.length + 1) }
+    {
+        if let Some(byte) = byte {
+            self.push(byte)?;
+        }
         Ok(())
     }
 }
@@ -170,13 +193,11 @@ pub(crate) fn string_body(alloc: Global, text: &[u8]) -> Result<Option<Body>, No
     let mut depth = 0;
     let mut rest = text;
     'pieces: while let Some((first, _)) = rest.split_first() {
-        if depth == 0 && *first == b')' {
+        if is_closing(*first, depth) {
             let taken = text.len() - rest.len() + 1;
             return Ok(Some(Body { limited, taken }));
         }
-        if let Some(byte) = piece_byte(rest) {
-            limited.push(byte)?;
-        }
+        limited.push_piece(piece_byte(rest))?;
         depth = depth_after(*first, depth);
         (_, rest) = rest.split_at(piece_length(rest));
     }
@@ -187,6 +208,15 @@ fn is_hex_digit(byte: u8) -> bool
     ensures { result ≡ is_hex_digit byte }
 {
     digit_value(byte) < 16
+}
+
+/// The byte that two hexadecimal digits make.
+fn hex_byte(high: u8, low: u8) -> u8
+    requires high { digit_value high < 16 }
+    requires low { digit_value low < 16 }
+    ensures { result ≡ digit_value high * 16 + digit_value low }
+{
+    (digit_value(high) * 16 + digit_value(low)) as u8
 }
 
 fn is_hex(byte: u8) -> bool
@@ -211,25 +241,24 @@ pub(crate) fn hex_length(text: &[u8]) -> usize
 /// The bytes of a hexadecimal string.
 #[tactic(auto, unfolding(crate::specs::Strings::hex_bytes))]
 pub(crate) fn hex_bytes(alloc: Global, text: &[u8]) -> Result<Limited, NoMemory>
+    requires { length text.now < 2 ^ 63 }
     ensures { IfOk result (λ limited. Keeps limited (hex_bytes text.now)) }
 {
     let mut limited = Limited::new(alloc);
     let mut first = None;
     'digits: for byte in text {
-        if !is_hex_digit(*byte) {
-            continue;
-        }
-        let digit = digit_value(*byte) as u8;
-        first = match first {
-            None => Some(digit),
-            Some(high) => {
-                limited.push(high * 16 + digit)?;
-                None
+        if is_hex_digit(*byte) {
+            match first {
+                None => first = Some(*byte),
+                Some(high) => {
+                    limited.push(hex_byte(high, *byte))?;
+                    first = None;
+                }
             }
-        };
+        }
     }
     if let Some(high) = first {
-        limited.push(high * 16)?;
+        limited.push(hex_byte(high, b'0'))?;
     }
     Ok(limited)
 }

@@ -1,7 +1,5 @@
-use Rattle.std.proofs.Common.{◌≡◌, ℕ, ◌+◌, ◌-◌, ◌≤◌, List, length, drop, Option}
-use Rattle.ps_scan.specs.Strings.{string_body}
-use Rattle.ps_scan.specs.Limited.{Keeps}
-use Rattle.ps_scan.proofs.StringLemmas.{ahead}
+use Rattle.std.proofs.Common.{◌+◌, ◌≤◌, length}
+use Rattle.ps_scan.proofs.StringLemmas.{Read}
 use Rattle.ps_scan.proofs.strings.string_body.Given as goal
 
 abbrev pub invariant-pieces : goal.invariant-pieces
@@ -10,8 +8,7 @@ invariant-pieces l =
       within : length l.rest ≤ length l.text;
       deep : l.depth + length l.rest ≤ length l.text;
       long : l.limited.length + length l.rest ≤ length l.text;
-      read : (bytes : List ℕ) × (Keeps l.limited bytes
-          × (string_body 0 0 l.text ≡ ahead bytes (length l.text - length l.rest) (string_body l.depth 0 l.rest)));
+      read : Read l.limited l.text l.rest l.depth;
     }
 
 abbrev pub decreases-pieces : goal.decreases-pieces
