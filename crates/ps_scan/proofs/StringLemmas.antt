@@ -216,3 +216,22 @@ pub hex_second : (bytes : List ℕ) (high : ℕ) (text : List ℕ) (i : ℕ) (wh
 hex_second bytes high text i whole within digit is =
     is ∙ ap (λ (ds : List ℕ). bytes ++ pairs (high ∷ ds)) (filter_at text i within ∙ cond_true (is_hex_digit (get_or text i 0)) _ _ digit)
         ∙ sym (append_assoc bytes ((digit_value high * 16 + digit_value (get_or text i 0)) ∷ []) (pairs (filter is_hex_digit (drop (i + 1) text))))
+
+-- what was read of a string in angle brackets, with a digit that waits for its second
+abbrev pub HexRead : Limited → Option ℕ → List ℕ → ℕ → Type 0
+HexRead limited first text i = (bytes : List ℕ) × (Keeps limited bytes
+    × (pairs (filter is_hex_digit text) ≡ bytes ++ pairs (option_to_list first ++ filter is_hex_digit (drop i text))))
+
+pub hex_none : (limited : Limited) (text : List ℕ) (i : ℕ) → i < length text → is_hex_digit (get_or text i 0) ≡ true →
+    HexRead limited None text i → HexRead limited (Some (get_or text i 0)) text (i + 1)
+hex_none limited text i within digit read = (read.0, (read.1.0, hex_first read.0 text i _ within digit read.1.1))
+
+pub hex_some : (limited new : Limited) (high : ℕ) (text : List ℕ) (i : ℕ) → i < length text → is_hex_digit (get_or text i 0) ≡ true →
+    ((bytes : List ℕ) → Keeps limited bytes → Keeps new (bytes ++ ((digit_value high * 16 + digit_value (get_or text i 0)) ∷ []))) →
+    HexRead limited (Some high) text i → HexRead new None text (i + 1)
+hex_some limited new high text i within digit push read =
+    (read.0 ++ ((digit_value high * 16 + digit_value (get_or text i 0)) ∷ []), (push read.0 read.1.0, hex_second read.0 high text i _ within digit read.1.1))
+
+pub hex_skips : (limited : Limited) (first : Option ℕ) (text : List ℕ) (i : ℕ) → i < length text → is_hex_digit (get_or text i 0) ≡ false →
+    HexRead limited first text i → HexRead limited first text (i + 1)
+hex_skips limited first text i within other read = (read.0, (read.1.0, hex_other read.0 first text i _ within other read.1.1))

@@ -41,6 +41,7 @@ fn with_digit(before: Significand, digit: u64) -> Significand
 }
 
 /// The significand of a mantissa.
+#[tactic(auto, using(crate::proofs::RealLemmas::strip_push))]
 fn significand_of(mantissa: &[u8]) -> Significand
     ensures is { IsSignificand result mantissa.now }
     ensures value { result.value < 10 ^ 18 }
