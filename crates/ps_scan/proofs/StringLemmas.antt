@@ -6,6 +6,13 @@ use Rattle.std.specs.Prelude.{filter}
 use Rattle.std.specs.Char.{digit_value}
 use Rattle.std.specs.Str.Parse.{digits_value}
 use Rattle.ps_scan.specs.Strings.{string_limit, is_octal, octal_length, begins_with_feed, escape_length, escape_byte, piece_length, piece_byte, depth_after, is_hex_digit, pairs, onto, string_body}
+use Rattle.std.specs.Prelude.{nat_le, Result, Ok, Err}
+use Rattle.ps_objects.specs.declared.error_name.ErrorName.{ErrorName}
+use Rattle.ps_objects.specs.declared.error_name.ErrorName.TheVariants.{LimitCheck}
+use Rattle.ps_scan.specs.Token.{scan_of, string_token}
+use Rattle.ps_scan.specs.declared.tokens.Token.{Token}
+use Rattle.ps_scan.specs.declared.tokens.Token.TheVariants as token
+use Rattle.ps_scan.specs.declared.tokens.Scan.{Scan}
 use Rattle.ps_scan.specs.Limited.{Keeps}
 use Rattle.ps_scan.specs.declared.strings.Limited.{Limited}
 
@@ -235,3 +242,22 @@ hex_some limited new high text i within digit push read =
 pub hex_skips : (limited : Limited) (first : Option ℕ) (text : List ℕ) (i : ℕ) → i < length text → is_hex_digit (get_or text i 0) ≡ false →
     HexRead limited first text i → HexRead limited first text (i + 1)
 hex_skips limited first text i within other read = (read.0, (read.1.0, hex_other read.0 first text i _ within other read.1.1))
+
+-- a string that is too long, and one that is not
+pub too_long : (limited : Limited) (bytes : List ℕ) (next : ℕ) (found : Scan) → 65535 < limited.length → Keeps limited bytes →
+    found ≡ scan_of (Err LimitCheck) next → found ≡ scan_of (string_token bytes) next
+unfolding string_limit
+too_long limited bytes next found above keeps is =
+    let long : 65535 < length bytes = omega (arith, keeps.length) in
+    let test : nat_le (length bytes) 65535 ≡ false = grind (arith, nat_tests) in
+    is ∙ ap (λ (r : Result Token ErrorName). scan_of r next) (sym (cond_false (nat_le (length bytes) 65535) (Ok (token.Str bytes)) (Err LimitCheck) test))
+
+pub short_enough : (limited : Limited) (bytes : List ℕ) (next : ℕ) → limited.length ≤ 65535 → Keeps limited bytes →
+    scan_of (Ok (token.Str limited.text)) next ≡ scan_of (string_token bytes) next
+unfolding string_limit
+short_enough limited bytes next below keeps =
+    let short : length bytes ≤ 65535 = omega (arith, keeps.length) in
+    let test : nat_le (length bytes) 65535 ≡ true = grind (arith, nat_tests) in
+    let same : limited.text ≡ bytes = keeps.text ∙ take_all 65535 bytes short in
+    ap (λ (t : List ℕ). scan_of (Ok (token.Str t)) next) same
+        ∙ ap (λ (r : Result Token ErrorName). scan_of r next) (sym (cond_true (nat_le (length bytes) 65535) (Ok (token.Str bytes)) (Err LimitCheck) test))

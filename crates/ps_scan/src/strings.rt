@@ -1,5 +1,5 @@
 //! What the bytes behind a parenthesis or an angle bracket spell.
-ghost use Rattle.std.specs.Prelude.{◌≡◌, ℕ, ◌+◌, ◌<◌, ◌≤◌, ◌^◌, ◌++◌, ◌∷◌, ◌==◌, ◌&&◌, ◌*◌, List, [], length, take, filter, false, min, Option, option_to_list, IfOk, OnOk};
+ghost use Rattle.std.specs.Prelude.{◌≡◌, ℕ, ◌+◌, ◌<◌, ◌≤◌, ◌^◌, ◌++◌, ◌∷◌, ◌==◌, ◌&&◌, ◌*◌, List, [], length, take, filter, false, min, Option, option_to_list, IfOk, IfSome, OnOk};
 ghost use Rattle.std.specs.Char.{digit_value};
 ghost use Rattle.std.specs.List.{prefix_len};
 ghost use Rattle.ps_scan.specs.Strings.{is_octal, octal_length, begins_with_feed, escape_length, escaped, escape_byte, piece_length, piece_byte, depth_after, string_body, is_hex_digit, is_hex, hex_bytes};
@@ -187,7 +187,8 @@ pub(crate) struct Body {
 
 /// The string behind an opening parenthesis. None where the text ends before it is closed.
 pub(crate) fn string_body(alloc: Global, text: &[u8]) -> Result<Option<Body>, NoMemory>
-    ensures { IfOk result (λ found. IsBody found (string_body 0 0 text.now)) }
+    ensures body { IfOk result (λ found. IsBody found (string_body 0 0 text.now)) }
+    ensures within { IfOk result (λ found. IfSome found (λ body. body.taken ≤ length text.now)) }
 {
     let mut limited = Limited::new(alloc);
     let mut depth = 0;

@@ -6,8 +6,8 @@ use Rattle.ps_scan.proofs.strings.string_body.Goals as goal
 pub pieces-init : goal.pieces-init
 pieces-init c = record { within = omega arith; deep = omega arith; long = omega (arith, c.new-limited.ensures.length); read = body_begins _ _ c.new-limited.ensures }
 
-pub returns-then-is_closing : goal.returns-then-is_closing
-returns-then-is_closing c =
+pub returns-then-is_closing-clause-body : goal.returns-then-is_closing-clause-body
+returns-then-is_closing-clause-body c =
     body_closed c.pieces.limited c.args.text.now c.pieces.rest.now _ c.pieces.depth c.in-Some.first.now c.in-Some.ensures.cases.0 (cc) c.pieces.invariant.read
 
 pub pieces-smaller : goal.pieces-smaller
@@ -27,5 +27,5 @@ pieces-preserved c =
           c.in_ok-push_piece.ensures.keeps c.pieces.invariant.read;
     }
 
-pub returns : goal.returns
-returns c = body_cut c.pieces.limited c.args.text.now c.pieces.rest.now c.pieces.depth c.in_default.ensures.cases c.pieces.invariant.read
+pub returns-clause-body : goal.returns-clause-body
+returns-clause-body c = body_cut c.pieces.limited c.args.text.now c.pieces.rest.now c.pieces.depth c.in_default.ensures.cases c.pieces.invariant.read
