@@ -37,9 +37,15 @@ length-row text = let within = row-le-length text in length-take-le (position_or
 row_is_longer : (b : ℕ) (bs : List ℕ) → is_delimiter b ≡ false → 1 ≤ position_or_len is_delimiter (b ∷ bs)
 row_is_longer b bs d = rw d (omega arith)
 
-row_moves : (place : ℕ) (text : List ℕ) → 1 ≤ position_or_len is_delimiter text → MovesOn place (place + length text) (row_at place text)
-unfolding row_at
-row_moves place text h =
+-- a token or an error moves on where its place does
+scan_moves : (found : Result Token ErrorName) (place end next : ℕ) → place < next → next ≤ end → MovesOn place end (scan_of found next)
+scan_moves (Ok t) place end next h k = (h, k)
+scan_moves (Err e) place end next h k = (h, k)
+
+-- the end of a row, where some byte was read before it
+after_row_moves : (place : ℕ) (text : List ℕ) → (place ≤ after_row place text) × (after_row place text ≤ place + length text)
+unfolding after_row
+after_row_moves place text =
     let row = before_first is_delimiter text in
     let e = length-row text in
     let within = row-le-length text in
@@ -47,12 +53,28 @@ row_moves place text h =
     let rest = length-drop (length row) text in
     (omega arith, omega arith)
 
-from_step : (place b : ℕ) (bs : List ℕ) (delimiter brace : Bool) → is_delimiter b ≡ delimiter → eqb b 125 ≡ brace →
-    MovesOn place (place + length (b ∷ bs)) (token_from place (b ∷ bs))
-unfolding token_from
-from_step place b bs true true d e = rw (d, e) (omega arith, omega arith)
-from_step place b bs true false d e = rw (d, e) (omega arith, omega arith)
-from_step place b bs false brace d e = rw d (row_moves place (b ∷ bs) (row_is_longer b bs d))
+after_row_longer : (place : ℕ) (text : List ℕ) → 1 ≤ position_or_len is_delimiter text → place < after_row place text
+unfolding after_row
+after_row_longer place text h =
+    let row = before_first is_delimiter text in
+    let e = length-row text in
+    omega arith
+
+row_moves : (place : ℕ) (text : List ℕ) → 1 ≤ position_or_len is_delimiter text → MovesOn place (place + length text) (row_at place text)
+unfolding row_at
+row_moves place text h =
+    scan_moves (row_token (before_first is_delimiter text)) place (place + length text) (after_row place text) (after_row_longer place text h) (after_row_moves place text).1
+
+name_moves : (how : NameKind) (before place end : ℕ) (text : List ℕ) → before < place → place + length text ≤ end → MovesOn before end (name_at how place text)
+unfolding name_at
+name_moves how before place end text h k =
+    let moved = after_row_moves place text in
+    scan_moves (name_token how (before_first is_delimiter text)) before end (after_row place text) (omega arith) (omega arith)
+
+slash_moves : (before place : ℕ) (text : List ℕ) → before < place → MovesOn before (place + length text) (slash_at place text)
+unfolding slash_at
+slash_moves before place [] h = name_moves kinds.Literal before place (place + 0) [] h (omega arith)
+slash_moves before place (b ∷ bs) h = slash_step before place b bs (eqb b 47) refl h
 
 from_moves : (place : ℕ) (text : List ℕ) → MovesOn place (place + length text) (token_from place text)
 unfolding token_from
