@@ -1,5 +1,5 @@
 //! The values of integers and reals as reals.
-ghost use Rattle.std.specs.Prelude.{◌≡◌, ◌+◌, ◌<◌, ◌^◌, ◌≤◌, length, min};
+ghost use Rattle.std.specs.Prelude.{◌≡◌, ◌+◌, ◌<◌, ◌^◌, ◌≤◌, length, min, pos, neg_ℤ, ◌+ℤ◌, ◌-ℤ◌, ◌≤ℤ◌};
 ghost use Rattle.ps_scan.specs.Numbers.{real_value};
 ghost use Rattle.ps_scan.specs.Significands.{digit_behind, IsSignificand, capped_exponent, IsNear};
 
@@ -61,7 +61,9 @@ fn significand_of(mantissa: &[u8]) -> Significand
 
 /// The value of an exponent, of at most `MOST`.
 fn exponent_value(bytes: &[u8]) -> i128
-    ensures { result ≡ capped_exponent MOST bytes.now }
+    ensures value { result ≡ capped_exponent MOST bytes.now }
+    ensures low { neg_ℤ (pos (2 ^ 64)) ≤ℤ result }
+    ensures high { result ≤ℤ pos (2 ^ 64) }
 {
     match bytes {
         [] => 0,
@@ -72,10 +74,14 @@ fn exponent_value(bytes: &[u8]) -> i128
     }
 }
 
-/// A power of ten that gives the same real and is no greater than it has to be.
-fn near_scale(scale: i128) -> i64
-    ensures { IsNear result scale }
+/// A power of ten that gives the same real as the exponent less the fraction's digits and more the digits that
+/// don't count, and that fits its type.
+fn near_scale(exponent: i128, fraction: usize, later: u64) -> i64
+    requires low { neg_ℤ (pos (2 ^ 64)) ≤ℤ exponent }
+    requires high { exponent ≤ℤ pos (2 ^ 64) }
+    ensures { IsNear result (exponent -ℤ pos fraction +ℤ pos later) }
 {
+    let scale = exponent - fraction as i128 + i128::from(later);
     if scale > 100 {
         100
     } else if scale < -100 {
@@ -94,6 +100,6 @@ pub(crate) fn real_value(row: &[u8]) -> Result<Real, Undefined>
     let found = significand_of(mantissa);
     let fraction = after(mantissa, place_of(mantissa, b'.'));
     let later = found.digits.saturating_sub(DIGITS);
-    let scale = exponent_value(exponent) - fraction.len() as i128 + i128::from(later);
-    decimal(is_negative(row), found.value, near_scale(scale))
+    let scale = near_scale(exponent_value(exponent), fraction.len(), later);
+    decimal(is_negative(row), found.value, scale)
 }
