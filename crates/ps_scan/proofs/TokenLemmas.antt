@@ -1,12 +1,12 @@
 -- Tokens move on, and leave a plain text plain.
-use Rattle.std.proofs.Common.{◌≡◌, ℕ, zero, suc, ◌+◌, ◌≤◌, Bool, true, false, ◌&&◌, not, cond, eqb, List, [], ◌∷◌, length, drop, refl, ap, subst, sym, ◌∙◌, ◌||◌, arith}
+use Rattle.std.proofs.Common.{take, ◌≡◌, ℕ, zero, suc, ◌+◌, ◌≤◌, Bool, true, false, ◌&&◌, not, cond, eqb, List, [], ◌∷◌, length, drop, refl, ap, subst, sym, ◌∙◌, ◌||◌, arith, ◌<◌, ◌-◌}
 use Rattle.std.specs.List.{position_or_len, before_first}
 use Rattle.std.proofs.lemmas.Bool.{and_parts}
 use Rattle.std.proofs.lemmas.Bool.Decides.{nat_tests}
 use Rattle.std.proofs.lemmas.List.{length-take-le, length-drop, drop-drop}
 use Rattle.std.proofs.lemmas.List.Sums.{prefix_len-le-length}
 use Rattle.ps_scan.specs.Characters.{is_white, is_delimiter, is_line_end, blanks, closing}
-use Rattle.ps_scan.specs.Token.{row_at, token_from, token_at, MovesOn}
+use Rattle.ps_scan.specs.Token.{scan_of, name_token, row_token, after_row, row_at, name_at, slash_at, string_token, body_token, string_at, hex_token, hex_at, less_at, greater_at, bracket, special_at, token_from, token_at, MovesOn}
 use Rattle.ps_scan.specs.Simple.{is_plain_byte, is_plain_row, is_plain, LeavesPlain}
 use Rattle.std.specs.Prelude.{Option, Some, None, Result, Ok, Err}
 use Rattle.std.specs.List.{prefix_len}
