@@ -1,5 +1,5 @@
 -- Floors of quotients, and the test of the range.
-use Rattle.std.proofs.Common.{◌≡◌, ℕ, zero, suc, ◌+◌, ◌-◌, ◌*◌, ◌/◌, ◌%◌, ◌^◌, ◌<◌, ◌≤◌, refl, ap, ap₂, sym, ◌∙◌, Bool, true, false, cond, arith, SFits, to_z, of_z, to_z-of_z, mod-lt, div-add-mod', mul-le-mul_left, mul-suc}
+use Rattle.std.proofs.Common.{◌≡◌, ℕ, zero, suc, ◌+◌, ◌-◌, ◌*◌, ◌/◌, ◌^◌, ◌<◌, ◌≤◌, refl, ap, ap₂, sym, ◌∙◌, Bool, true, false, cond, arith, SFits, to_z, of_z, to_z-of_z, mod-lt, div-add-mod', mul-le-mul_left, mul-suc}
 use Rattle.std.specs.Prelude.{ℤ, pos, negsuc, ◌+ℤ◌, ◌-ℤ◌, ◌*ℤ◌, neg_ℤ, ◌<ℤ◌, unsigned_abs, Ok, Err, FitsSigned}
 use Rattle.std.specs.Int.Signed.{mag}
 use Rattle.std.specs.Int.{w64, w128}
@@ -119,14 +119,8 @@ nearest_down_by a p q h k e =
 
 -- ---- quotients of reals
 
--- the whole part apart from what is left of a
-pub quotient_split : (a b half : ℕ) → 0 < b → half ≤ b → a / b * 2 ^ 24 + (a % b * 2 ^ 25 + half) / (2 * b) ≡ (2 * (a * 2 ^ 24) + half) / (2 * b)
-quotient_split a b half h k =
-    let split = div-add-mod' a b in
-    let t = (a % b * 2 ^ 25 + half) / (2 * b) in
-    let inner = div-add-mod' (a % b * 2 ^ 25 + half) (2 * b) in
-    let small = mod-lt (a % b * 2 ^ 25 + half) (let two : 0 < 2 * b = omega arith in two) in
-    sym (div-eq_of_lt-le {k = a / b * 2 ^ 24 + t} (2 * b) (omega arith) (omega arith))
+pub quotient_is : (q t d : ℕ) → q * d ≤ t → t - q * d < d → q ≡ t / d
+quotient_is q t d h k = sym (div-eq_of_lt-le {k = q} d (omega arith) (omega arith))
 
 pub quotient_bound : (a b half : ℕ) → 0 < b → half ≤ b → a ≤ 2 ^ 63 → (2 * (a * 2 ^ 24) + half) / (2 * b) < 2 ^ 90
 quotient_bound a b half h k l = let small = quotient_at_most (a * 2 ^ 24) b half h k in omega arith

@@ -9,6 +9,8 @@ use crate::rounding::{Undefined, nearest_count, real_of};
 use ps_shapes::Real;
 use std::num::{nearest_u64_to_f64, saturating_f64_to_u64};
 
+const ONE: u128 = 1 << 24;
+
 /// The whole product, in counts of 2^-48.
 pub fn product(a: Real, b: Real) -> i128
     ensures value { result ≡ a.count *ℤ b.count }
@@ -39,25 +41,23 @@ pub fn mul(a: Real, b: Real) -> Result<Real, Undefined>
     real_of(nearest_count(product(a, b)))
 }
 
-// dividend / divisor. The guess makes it fast; the loops make it right, whatever the guess.
-fn quotient_near(guess: u64, dividend: u128, divisor: u128) -> u128
-    requires dividend { dividend < 2 ^ 89 }
-    requires low { 2 ^ 39 ≤ divisor }
-    requires high { divisor ≤ 2 ^ 64 }
+// dividend / divisor. Where the guess is right, no division of 128 bits is done.
+#[tactic(auto, using(crate::proofs::Floors::quotient_is))]
+fn quotient_by_guess(guess: u64, dividend: u128, divisor: u128) -> u128
+    requires positive { 0 < divisor }
+    requires divisor { divisor ≤ 2 ^ 64 }
     ensures { result ≡ dividend / divisor }
 {
-    let mut quotient = guess.min(0x3_ffff_ffff_ffff) as u128;
-    'down: while quotient * divisor > dividend {
-        quotient -= 1;
+    let product = guess as u128 * divisor;
+    if product <= dividend && dividend - product < divisor {
+        guess as u128
+    } else {
+        dividend / divisor
     }
-    'up: while (quotient + 1) * divisor <= dividend {
-        quotient += 1;
-    }
-    quotient
 }
 
 // (2·a·2^24 + half) / (2·b): a·2^24 / b to the nearest, halves up where half is b, and down where it is b - 1.
-// Where b is below 16384, two divisions of 64 bits give it; else it is below 2^50, and is guessed.
+#[tactic(auto, using(crate::proofs::Floors::quotient_bound))]
 fn scaled_magnitude(a: u64, b: u64, half: u64) -> u128
     requires dividend { a ≤ 2 ^ 63 }
     requires positive { 0 < b }
@@ -66,14 +66,10 @@ fn scaled_magnitude(a: u64, b: u64, half: u64) -> u128
     ensures value { result ≡ (2 * (a * 2 ^ 24) + half) / (2 * b) }
     ensures bound { result < 2 ^ 90 }
 {
-    if b < 0x40_0000_0000 {
-        let rest = a % b * 0x200_0000 + half;
-        (a / b) as u128 * 0x100_0000 + (rest / (2 * b)) as u128
-    } else {
-        let ratio = nearest_u64_to_f64(a) / nearest_u64_to_f64(b);
-        let guess = saturating_f64_to_u64(ratio * 16777216.0 + 0.5);
-        quotient_near(guess, a as u128 * 0x200_0000 + half as u128, 2 * b as u128)
-    }
+    let ratio = nearest_u64_to_f64(a) / nearest_u64_to_f64(b);
+    let guess = saturating_f64_to_u64(ratio * 16777216.0 + 0.5);
+    let dividend = 2 * (a as u128 * ONE) + half as u128;
+    quotient_by_guess(guess, dividend, 2 * b as u128)
 }
 
 // a·2^24 / b, to the nearest whole number.

@@ -1,7 +1,7 @@
-use Rattle.std.proofs.Common.{◌≡◌, ℕ, ◌+◌, ◌-◌, ◌≤◌, List, [], ◌∷◌, ◌++◌, length, take, drop, refl, sym, ap, ◌∙◌, arith, length-drop}
+use Rattle.std.proofs.Common.{◌≡◌, ℕ, ◌-◌, ◌≤◌, List, ◌++◌, length, take, drop, sym, ap, ◌∙◌, arith, length-drop}
 use Rattle.std.specs.Prelude.{reverse}
 use Rattle.ps_objects.specs.Turned.{end_turned}
-use Rattle.std.proofs.lemmas.List.{reverse-append, length-reverse, take-append-drop, drop_at, take_at}
+use Rattle.std.proofs.lemmas.List.{reverse-append, reverse-reverse, length-reverse, take-append-drop, drop_at, take_at}
 
 -- the newest n taken away, where a list is seen from its end
 pub shrunk : {A : Type 0} (xs : List A) (n : ℕ) → n ≤ length xs → reverse (take (length xs - n) xs) ≡ drop n (reverse xs)
@@ -30,3 +30,6 @@ roll_view xs n k h g =
     ∙ ap (λ ys. (drop k (reverse t) ++ ys) ++ reverse p) d
     ∙ ap (λ ys. (drop k ys ++ take k ys) ++ reverse p) a
     ∙ ap (λ ys. (drop k (take n (reverse xs)) ++ take k (take n (reverse xs))) ++ ys) b
+
+pub turned_back : {A : Type 0} (xs : List A) → reverse (reverse xs) ≡ xs
+turned_back xs = reverse-reverse xs

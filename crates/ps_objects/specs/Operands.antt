@@ -1,7 +1,6 @@
 -- What an operator reads of its operands, the newest first: an operand, or the error of one that is absent or of another type.
-use Rattle.std.specs.Prelude.{ℕ, ℤ, ◌+◌, Bool, true, false, List, length, nat_lt, slice_get, if◌then◌else◌, Some, None, Result, Ok, Err}
+use Rattle.std.specs.Prelude.{◌≡◌, ℕ, ℤ, ◌+◌, Bool, List, length, nat_lt, slice_get, if◌then◌else◌, Some, None, Result, Ok, Err}
 use Rattle.ps_objects.specs.Access.{read_right, write_right, run_right}
-use Rattle.ps_objects.specs.declared.access.Access.{Access}
 use Rattle.ps_objects.specs.declared.cell.Cell.{Cell}
 use Rattle.ps_objects.specs.declared.cell.SaveName.{SaveName}
 use Rattle.ps_objects.specs.declared.error_name.ErrorName.{ErrorName}
@@ -13,6 +12,8 @@ use Rattle.ps_objects.specs.declared.objects.FileName.{FileName}
 use Rattle.ps_objects.specs.declared.objects.Interval.{Interval}
 use Rattle.ps_objects.specs.declared.objects.Number.{Number}
 use Rattle.ps_objects.specs.declared.objects.Number.TheVariants as number
+use Rattle.ps_objects.specs.declared.refusal.Refusal.{Refusal}
+use Rattle.ps_objects.specs.declared.refusal.Refusal.TheVariants as refusal
 
 -- n operands are there
 abbrev pub needed : ℕ → List Object → Result (Unit {0}) ErrorName
@@ -102,6 +103,12 @@ save_at = typed save_of
 
 abbrev pub procedure_at : ℕ → List Object → Result Interval ErrorName
 procedure_at = operand procedure_of
+
+-- what is read, unless memory ran out
+abbrev pub Reads : {A : Type 0} → Result A ErrorName → Result A Refusal → Type 0
+Reads r (Ok x) = r ≡ Ok x
+Reads r (Err (refusal.Error e)) = r ≡ Err e
+Reads _ (Err refusal.NoMemory) = Unit {0}
 
 -- what the access of an operand lets be done with it
 abbrev pub readable_at : ℕ → List Object → Result (Unit {0}) ErrorName

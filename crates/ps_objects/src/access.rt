@@ -31,7 +31,9 @@ impl Access {
     {
         match self {
             Access::Unlimited => Ok(()),
-            Access::ReadOnly | Access::ExecuteOnly | Access::NoAccess => Err(ErrorName::InvalidAccess),
+            Access::ReadOnly | Access::ExecuteOnly | Access::NoAccess => Err(
+                ErrorName::InvalidAccess,
+            ),
         }
     }
 

@@ -1,6 +1,8 @@
 //! The names of composite objects and of saves.
 ghost use Rattle.std.specs.Prelude.{IsTrue, ◌↔◌};
 
+use crate::{Duplicate, NoMemory};
+
 /// Where a composite object lies: local memory, which a restore gives back, or global memory.
 #[derive(Clone, Copy, Debug, PartialEq, Eq, PartialOrd, Ord)]
 pub enum Space {
@@ -31,5 +33,11 @@ impl Cell {
         ensures { IsTrue result ↔ IsNewer self save }
     {
         save.section < self.section || (save.section == self.section && save.count < self.count)
+    }
+}
+
+impl Duplicate for Cell {
+    fn duplicate(&self) -> Result<Cell, NoMemory> {
+        Ok(*self)
     }
 }

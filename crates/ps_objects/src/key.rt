@@ -1,9 +1,14 @@
 //! Keys of dictionaries.
-ghost use Rattle.std.specs.Prelude.{◌≡◌, [], ◌∷◌, ◌++◌, length, slice_get, option_copied, IfOk, OnOk, OnErr};
+ghost use Rattle.std.specs.Prelude.{◌≡◌, IfOk, nat_lt, true, false};
+ghost use Rattle.ps_objects.specs.Operands.{Reads};
+ghost use Rattle.ps_objects.specs.Key.{key_form_of, real_key, key_kind, key_cell, kind_rank};
+ghost use Rattle.std.specs.declared.cmp.Ordering.TheVariants.{Less};
 
-use crate::{Cell, Duplicate, Name, NoMemory, Op, Real, SaveName};
-use std::alloc::Global;
-use std::marker::Model;
+use crate::{
+    Access, Cell, Duplicate, ErrorName, Interval, Kind, Name, NoMemory, Object, Op, Real, Refusal,
+    SaveName, Sequence,
+};
+use std::cmp::Ordering;
 
 /// An object made fit for a key. Keys are in the order of these variants, and within one in the order of its fields.
 #[derive(PartialEq, Eq, PartialOrd, Ord, Drop)]
@@ -29,6 +34,16 @@ pub enum Key {
     Save(SaveName),
     FontId(Cell),
     Mark,
+}
+
+/// The keys of a dictionary's entries, in their order.
+pub type Keys = Sequence<Key>;
+
+/// What an object is as a key: the key itself, or the string whose bytes are those of a name.
+#[derive(PartialEq, Eq, Drop)]
+pub enum KeyForm {
+    Key(Key),
+    Text(Interval),
 }
 
 impl Key {
@@ -62,6 +77,63 @@ impl Key {
             Key::Mark => Key::Mark,
         })
     }
+
+    /// Compares two keys. Keys of different kinds are in the order of `kind_rank`.
+    pub fn compare(&self, other: &Key) -> Ordering
+        ensures { nat_lt (kind_rank self.now) (kind_rank other.now) ≡ true → result ≡ Less }
+    {
+        self.cmp(other)
+    }
+
+    /// The key as programs are told it: a literal object with unlimited access.
+    pub fn object(&self) -> Result<Object, NoMemory>
+        ensures { IfOk result (λ object. object ≡ record { kind = key_kind self.now; exec = false; access = Access.Unlimited }) }
+    {
+        Ok(Object {
+            kind: self.kind()?,
+            exec: false,
+            access: Access::Unlimited,
+        })
+    }
+
+    fn kind(&self) -> Result<Kind, NoMemory>
+        ensures { IfOk result (λ kind. kind ≡ key_kind self.now) }
+    {
+        Ok(match self {
+            Key::Name(name) => Kind::Name(name.copy()?),
+            Key::Integer(n) => Kind::Integer(*n),
+            Key::Real(r) => Kind::Real(*r),
+            Key::Boolean(b) => Kind::Boolean(*b),
+            Key::Operator(op) => Kind::Operator(*op),
+            Key::Dict(cell) => Kind::Dict(*cell),
+            Key::Array {
+                cell,
+                start,
+                len,
+                packed,
+            } => Kind::Array {
+                cell: *cell,
+                start: *start,
+                len: *len,
+                packed: *packed,
+            },
+            Key::File { section, layer } => file_kind(*section, *layer),
+            Key::Save(save) => Kind::Save(*save),
+            Key::FontId(cell) => Kind::FontId(*cell),
+            Key::Mark => Kind::Mark,
+        })
+    }
+
+    /// The cell that the key names.
+    pub fn cell(&self) -> Option<Cell>
+        ensures { result ≡ key_cell self.now }
+    {
+        match self {
+            Key::Dict(cell) => Some(*cell),
+            Key::Array { cell, .. } => Some(*cell),
+            _ => None,
+        }
+    }
 }
 
 impl Duplicate for Key {
@@ -70,86 +142,70 @@ impl Duplicate for Key {
     }
 }
 
-/// The keys of a dictionary, in their order.
-#[derive(Drop)]
-pub struct Keys {
-    items: Vec<Key>,
-}
-
-impl Model for Keys {
-    ghost use Rattle.std.specs.Prelude.{List};
-    ghost use Rattle.ps_objects.specs.declared.key.Key.{Key};
-
-    ghost Value = { List Key };
-
-    ghost view = { λ keys. keys.items.items };
-}
-
-impl Keys {
-    pub fn new(alloc: Global) -> Keys
-        ensures { result ≡ [] }
+impl Kind {
+    /// The key that the object is: null is a typecheck, and a whole real with 32 bits is the integer.
+    pub fn key_form(&self) -> Result<KeyForm, Refusal>
+        ensures { Reads (key_form_of self.now) result }
     {
-        Keys {
-            items: Vec::new(alloc),
-        }
-    }
-
-    pub fn len(&self) -> usize
-        ensures { result ≡ length self.now }
-    {
-        self.items.len()
-    }
-
-    pub fn get(&self, place: usize) -> Option<&Key>
-        ensures { option_copied result ≡ slice_get self.now place }
-    {
-        self.items.get(place)
-    }
-
-    pub fn as_slice(&self) -> &[Key]
-        ensures { result.now ≡ self.now }
-    {
-        self.items.as_slice()
-    }
-
-    /// Appends a key. Where memory runs out the keys are as they were.
-    pub fn push(&mut self, key: Key) -> Result<(), NoMemory>
-        ensures ok { OnOk result (self.new ≡ self.old ++ key ∷ []) }
-        ensures err { OnErr result (self.new ≡ self.old) }
-    {
-        self.items.push(key)?;
-        Ok(())
-    }
-
-    pub fn copy(&self) -> Result<Keys, NoMemory>
-        ensures { IfOk result (λ keys. keys ≡ self.now) }
-    {
-        let mut items = Vec::new(*self.items.allocator());
-        for key in self.items.as_slice() {
-            items.push(key.copy()?)?;
-        }
-        Ok(Keys { items })
+        Ok(KeyForm::Key(match self {
+            Kind::Integer(n) => Key::Integer(*n),
+            Kind::Real(r) => real_key(*r),
+            Kind::Boolean(b) => Key::Boolean(*b),
+            Kind::Null => return Err(Refusal::Error(ErrorName::TypeCheck)),
+            Kind::Mark => Key::Mark,
+            Kind::Name(name) => Key::Name(name.copy()?),
+            Kind::Operator(op) => Key::Operator(*op),
+            Kind::Str { cell, start, len } => {
+                return Ok(KeyForm::Text(Interval {
+                    cell: *cell,
+                    start: *start,
+                    len: *len,
+                }));
+            }
+            Kind::Array {
+                cell,
+                start,
+                len,
+                packed,
+            } => Key::Array {
+                cell: *cell,
+                start: *start,
+                len: *len,
+                packed: *packed,
+            },
+            Kind::Dict(cell) => Key::Dict(*cell),
+            Kind::File { section } => Key::File {
+                section: *section,
+                layer: 0,
+            },
+            Kind::Filter { section, layer } => Key::File {
+                section: *section,
+                layer: *layer,
+            },
+            Kind::Save(save) => Key::Save(*save),
+            Kind::FontId(cell) => Key::FontId(*cell),
+        }))
     }
 }
 
-impl PartialEq for Keys {
-    ghost use Rattle.std.specs.Cmp.{partial_equiv_from_equiv};
-    ghost use Rattle.std.specs.Cmp.Lexicographic.{lists_equiv, pointwise};
-    ghost use Rattle.ps_objects.specs.contracts.key.KeyEq.TheImpl.Laws as laws;
-    ghost use Rattle.ps_objects.specs.contracts.key.KeyPartialEq.TheImpl as key;
-
-    ghost eq = { pointwise key.eq-value.it };
-
-    ghost laws = { partial_equiv_from_equiv (lists_equiv laws.laws-law) };
-
-    fn eq(&self, other: &Keys) -> bool {
-        self.as_slice() == other.as_slice()
+fn file_kind(section: u32, layer: u32) -> Kind
+    ensures { result ≡ key_kind (Key.File section layer) }
+{
+    if layer == 0 {
+        Kind::File { section }
+    } else {
+        Kind::Filter { section, layer }
     }
 }
 
-impl Eq for Keys {
-    ghost use Rattle.std.specs.Cmp.Lexicographic.{lists_equiv};
-    ghost use Rattle.ps_objects.specs.contracts.key.KeyEq.TheImpl.Laws as laws;
-
-    ghost laws = { lists_equiv laws.laws-law };
+fn real_key(real: Real) -> Key
+    ensures { result ≡ real_key real }
+{
+    let whole = real.count / 16777216;
+    if real.count % 16777216 == 0 && -2147483648 <= whole && whole <= 2147483647 {
+        let integer = whole as i32;
+        Key::Integer(integer)
+    } else {
+        Key::Real(real)
+    }
 }

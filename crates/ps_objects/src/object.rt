@@ -2,6 +2,7 @@
 ghost use Rattle.std.specs.Prelude.{◌≡◌, IfOk};
 
 use crate::{Access, Cell, Duplicate, Name, NoMemory, Op, Real, SaveName};
+use std::mem::size_of;
 
 /// The type of an object, and its value or the cell that holds it. A string or an array is an interval of a cell.
 #[derive(PartialEq, Eq, Drop)]
@@ -50,6 +51,9 @@ pub struct Object {
     pub access: Access,
 }
 
+// Stacks and memory hold many objects.
+const _: () = prove!(size_of::<Object>() <= 48);
+
 impl Kind {
     pub fn copy(&self) -> Result<Kind, NoMemory>
         ensures { IfOk result (λ kind. kind ≡ self.now) }
@@ -87,6 +91,22 @@ impl Kind {
             Kind::Save(save) => Kind::Save(*save),
             Kind::FontId(cell) => Kind::FontId(*cell),
         })
+    }
+}
+
+impl Kind {
+    ghost use Rattle.ps_objects.specs.Object.{cell_of};
+
+    /// The cell that the object names, where it is a composite object.
+    pub fn cell(&self) -> Option<Cell>
+        ensures { result ≡ cell_of self.now }
+    {
+        match self {
+            Kind::Str { cell, .. } => Some(*cell),
+            Kind::Array { cell, .. } => Some(*cell),
+            Kind::Dict(cell) => Some(*cell),
+            _ => None,
+        }
     }
 }
 

@@ -1,8 +1,8 @@
 //! The operand stack and the dictionary stack, and what an operator reads of its operands.
 ghost use Rattle.std.specs.Prelude.{◌≡◌, ◌<◌, ◌≤◌, ◌^◌, length, Ok, Err, MatchResult};
-ghost use Rattle.ps_objects.specs.Operands.{needed, room_for, object_at, integer_at, boolean_at, number_at, dict_at, array_at, string_at, procedure_at, file_at, save_at, readable_at, writable_at, runnable_at, dict_room};
+ghost use Rattle.ps_objects.specs.Operands.{Reads, needed, room_for, object_at, integer_at, boolean_at, number_at, dict_at, array_at, string_at, procedure_at, file_at, save_at, readable_at, writable_at, runnable_at, dict_room};
 
-use crate::{Cell, ErrorName, Kind, Object, Real, SaveName, Stack};
+use crate::{Cell, ErrorName, KeyForm, Kind, Object, Real, Refusal, SaveName, Stack};
 
 /// A list of objects, the newest first.
 pub type Objects = Stack<Object>;
@@ -39,6 +39,8 @@ pub struct FileName {
 }
 
 impl Stack<Object> {
+    ghost use Rattle.ps_objects.specs.Key.{key_form_at};
+
     /// Whether there are `n` operands: stackunderflow.
     pub fn need(&self, n: usize) -> Result<(), ErrorName>
         ensures { result ≡ needed n self.now }
@@ -168,6 +170,13 @@ impl Stack<Object> {
             Kind::Save(save) => Ok(save),
             _ => Err(ErrorName::TypeCheck),
         }
+    }
+
+    /// The key that the operand is. Of a string the access and the bytes are still to be looked at.
+    pub fn key_form(&self, depth: usize) -> Result<KeyForm, Refusal>
+        ensures { Reads (key_form_at depth self.now) result }
+    {
+        self.object(depth)?.kind.key_form()
     }
 
     /// Whether the operand's access lets it be read: invalidaccess.

@@ -1,7 +1,7 @@
 //! The places of memory, and the values there.
 ghost use Rattle.std.specs.Prelude.{◌≡◌, IfOk};
 
-use crate::{Access, Cell, Key, Keys, NoMemory, Object};
+use crate::{Access, Cell, Key, Keys, NoMemory, Object, Paper};
 
 /// A place of memory.
 #[derive(PartialEq, Eq, PartialOrd, Ord, Drop)]
@@ -30,6 +30,7 @@ pub enum Value {
     Access(Access),
     Keys(Keys),
     Rand(u32),
+    Paper(Paper),
 }
 
 /// The kind of a composite object and its size, which never change.
@@ -76,6 +77,7 @@ impl Value {
             Value::Access(access) => Value::Access(*access),
             Value::Keys(keys) => Value::Keys(keys.copy()?),
             Value::Rand(state) => Value::Rand(*state),
+            Value::Paper(paper) => Value::Paper(paper.copy()?),
         })
     }
 }

@@ -1,5 +1,6 @@
 //! Stacks.
 ghost use Rattle.std.specs.Prelude.{◌≡◌, ◌<◌, ◌≤◌, ◌==◌, List, [], ◌∷◌, length, drop, slice_get, option_copied, Some, MatchOption, IfOk, OnOk, OnErr, reverse};
+ghost use Rattle.ps_objects.specs.Turned.{end_turned};
 
 use crate::{Duplicate, NoMemory};
 use std::alloc::Global;
@@ -32,6 +33,12 @@ impl<T: Drop> Stack<T> {
         ensures { result ≡ length self.now }
     {
         self.items.len()
+    }
+
+    pub fn is_empty(&self) -> bool
+        ensures { result ≡ (length self.now == 0) }
+    {
+        self.items.is_empty()
     }
 
     /// What is `depth` below the newest.
@@ -84,6 +91,27 @@ impl<T: Drop> Stack<T> {
     }
 }
 
+impl<T: Drop> Stack<T> {
+    ghost use Rattle.ps_objects.specs.Turned.{rolled};
+
+    /// Exchanges the newest two.
+    pub fn exchange(&mut self)
+        requires { 2 ≤ length self.old }
+        ensures { self.new ≡ rolled 2 1 self.old }
+    {
+        turn_end(&mut self.items, 2, 1);
+    }
+
+    /// Turns the newest `n`, so that the newest `k` go below the others.
+    pub fn roll(&mut self, n: usize, k: usize)
+        requires n { n ≤ length self.old }
+        requires k { k ≤ n }
+        ensures { self.new ≡ rolled n k self.old }
+    {
+        turn_end(&mut self.items, n, k);
+    }
+}
+
 impl<T: Drop + Duplicate> Stack<T> {
     pub fn copy(&self) -> Result<Stack<T>, NoMemory>
         ensures { IfOk result (λ stack. stack ≡ self.now) }
@@ -94,4 +122,38 @@ impl<T: Drop + Duplicate> Stack<T> {
         }
         Ok(Stack { items })
     }
+}
+
+impl<T: Drop + PartialEq> PartialEq for Stack<T> {
+    ghost use Rattle.std.specs.Prelude.{reverse};
+    ghost use Rattle.std.specs.Cmp.{on_per};
+    ghost use Rattle.std.specs.Ordering.{on};
+    ghost use Rattle.std.specs.Cmp.Lexicographic.{lists_per, pointwise};
+
+    ghost eq = { on reverse (pointwise T.eq) };
+
+    ghost laws = { on_per reverse (lists_per T.laws) };
+
+    #[tactic(auto, using(crate::proofs::Reversed::turned_back))]
+    fn eq(&self, other: &Stack<T>) -> bool {
+        self.items == other.items
+    }
+}
+
+impl<T: Drop + Eq> Eq for Stack<T> {
+    ghost use Rattle.std.specs.Prelude.{reverse};
+    ghost use Rattle.std.specs.Cmp.{on_equiv};
+    ghost use Rattle.std.specs.Cmp.Lexicographic.{lists_equiv};
+
+    ghost laws = { on_equiv reverse (lists_equiv T.Eq.laws) };
+}
+
+/// Turns the last `n` right by `k`.
+fn turn_end<T: Drop>(items: &mut Vec<T>, n: usize, k: usize)
+    requires n { n ≤ length items.old.items }
+    requires k { k ≤ n }
+    ensures { items.new.items ≡ end_turned items.old.items n k }
+{
+    let below = items.len() - n;
+    items[below..].rotate_right(k);
 }

@@ -1,0 +1,9 @@
+pub mod Near
+pub mod Span
+pub mod Screen
+pub mod Path
+pub mod Sheet
+pub mod Bits
+pub mod Same
+pub mod Laws
+pub mod Picture

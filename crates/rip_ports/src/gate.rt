@@ -2,8 +2,10 @@
 
 /// Is told of each page before and after it is speculated. No lock is held meanwhile.
 pub trait Gate {
+    /// The page is about to be speculated.
     fn before(&self, page: u32);
 
+    /// The page has been speculated.
     fn after(&self, page: u32);
 }
 

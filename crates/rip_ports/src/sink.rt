@@ -1,5 +1,5 @@
 //! Sinks.
-ghost use Rattle.std.specs.Prelude.{◌≡◌, ◌≤◌, ℕ, List, Option, length, MatchResult, OnErr, option_map, ◌++◌};
+ghost use Rattle.std.specs.Prelude.{◌≡◌, ◌≤◌, ℕ, List, Option, OnOk, OnErr};
 ghost use Rattle.rip_ports.specs.Ports.{HasRisen, Appends, AppendsFront};
 
 use crate::Failed;
@@ -13,8 +13,13 @@ pub trait Sink {
     ghost faults: { Self → ℕ };
 
     /// Takes the whole piece, or fails and has taken a part of it, from its front.
+    ///
+    /// # Errors
+    ///
+    /// `Failed` only where the count of faults has risen.
     fn put(&mut self, bytes: &[u8]) -> Result<(), Failed>
         ensures counted { faults self.old ≤ faults self.new }
         ensures failed { OnErr result (HasRisen (faults self.old) (faults self.new)) }
-        ensures held { MatchResult result (λ _. Appends bytes.now (holds self.old) (holds self.new)) (λ _. AppendsFront bytes.now (holds self.old) (holds self.new)) };
+        ensures appended { OnOk result (Appends bytes.now (holds self.old) (holds self.new)) }
+        ensures cut { OnErr result (AppendsFront bytes.now (holds self.old) (holds self.new)) };
 }

@@ -1,4 +1,4 @@
-use Rattle.std.proofs.Common.{◌≡◌, ◌-◌, ◌≤◌, length, take, drop, sym, ap, ◌∙◌, reverse, vec_len, arith}
+use Rattle.std.proofs.Common.{◌≡◌, ◌-◌, ◌≤◌, length, take, drop, ap, ◌∙◌, reverse}
 use Rattle.std.proofs.lemmas.List.{length-reverse}
 use Rattle.ps_objects.proofs.Reversed.{shrunk}
 use Rattle.ps_objects.proofs.stack.Stack.shrink.Goals as goal

@@ -1,0 +1,4 @@
+pub mod Histories
+pub mod Steps
+pub mod Once
+pub mod Runs

@@ -1,0 +1,5 @@
+pub mod History
+pub mod State
+pub mod Slots
+pub mod Desk
+pub mod Calls

@@ -1,0 +1,11 @@
+pub mod CommentLemmas
+pub mod Searches
+pub mod WordLemmas
+pub mod LineLemmas
+pub mod MarkLemmas
+pub mod CutLemmas
+pub mod OrderLemmas
+pub mod SectionLemmas
+pub mod PieceLemmas
+pub mod PageLemmas
+pub mod Laws

@@ -1,0 +1,4 @@
+pub mod Cover
+pub mod Rows
+pub mod Marks
+pub mod Scattered

@@ -1,0 +1,60 @@
+//! The spans of a row.
+ghost use Rattle.std.specs.Prelude.{ℕ, ◌≡◌, ◌<◌, ◌≤◌, ◌&&◌, ◌||◌, Bool, OnOk, count_by, nat_eq, nat_le, nat_lt, not, length, true, false};
+ghost use Rattle.std.specs.List.Sorted.{IsNonDecreasingBy};
+ghost use Rattle.ps_shapes.specs.Span.{holds, is_in};
+ghost use Rattle.path_cover.specs.Cover.{is_inside};
+ghost use Rattle.path_cover.specs.Marks.{crosses, is_going};
+ghost use Rattle.path_cover.specs.Scattered.{IsScattered};
+
+use crate::crossing::Crossing;
+use ps_shapes::{NoMemory, Span};
+
+/// Adds the spans of a row between its crossings.
+pub(crate) fn sweep(
+    crossings: &[Crossing],
+    odd: bool,
+    row: u32,
+    width: u32,
+    spans: &mut Vec<Span>,
+) -> Result<(), NoMemory>
+    requires { IsNonDecreasingBy (λ c. c.column) crossings.now }
+    ensures exact { OnOk result ((x y : ℕ) → x < width → is_in spans.new.items x y ≡ (is_in spans.old.items x y || (nat_eq row y && is_inside odd (count_by (crosses true x) crossings.now) (count_by (crosses false x) crossings.now)))) }
+    ensures place { OnOk result ((height : ℕ) → row < height → IsScattered width height spans.old.items → IsScattered width height spans.new.items) }
+{
+    let mut downs = 0usize;
+    let mut ups = 0usize;
+    let mut at = 0u32;
+    for crossing in crossings {
+        let here = crossing.column.min(width);
+        gap(spans, row, at, here, is_inside(odd, downs, ups))?;
+        at = at.max(here);
+        downs += usize::from(crossing.down);
+        ups += usize::from(!crossing.down);
+    }
+    gap(spans, row, at, width, is_inside(odd, downs, ups))?;
+    Ok(())
+}
+
+/// Adds the span of a gap between two crossings, if the gap is inside.
+fn gap(spans: &mut Vec<Span>, row: u32, first: u32, past: u32, inside: bool) -> Result<(), NoMemory>
+    ensures exact { OnOk result ((x y : ℕ) → is_in spans.new.items x y ≡ (is_in spans.old.items x y || (nat_eq row y && (nat_le first x && nat_lt x past) && inside))) }
+    ensures place { OnOk result ((width height : ℕ) → row < height → past ≤ width → IsScattered width height spans.old.items → IsScattered width height spans.new.items) }
+{
+    if inside && first < past {
+        spans.push(Span { row, first, past })?;
+    }
+    Ok(())
+}
+
+/// Whether that many edges down and up make a pixel inside.
+fn is_inside(odd: bool, downs: usize, ups: usize) -> bool
+    requires downs { downs < 9223372036854775808 }
+    requires ups { ups < 9223372036854775808 }
+    ensures { result ≡ is_inside odd downs ups }
+{
+    if odd {
+        (downs + ups) % 2 == 1
+    } else {
+        downs != ups
+    }
+}

@@ -1,0 +1,31 @@
+//! The registers of a running job: the graphics state, saves, frames and the state of a section.
+#![tactic(auto)]
+
+mod act;
+mod frame;
+mod graphics;
+mod ranges;
+mod regs;
+mod state;
+#[cfg(test)]
+mod tests;
+
+pub use act::Act;
+pub use frame::{
+    FRAME_LIMIT, Frame, Frames, Glyph, ImageRun, Offset, Pair, PathWalk, Samples, ShowForm,
+    ShowPhase, ShowRun, room_for_frame,
+};
+pub use graphics::{Colour, GStack, GState, Layer};
+pub use ps_objects::{
+    Access, Cell, DICT_STACK_LIMIT, DictStack, Duplicate, ErrorName, FIRST_DEFAULT_ENTRY, FileName,
+    Interval, Key, KeyForm, Keys, Kind, Loc, NAME_LIMIT, Name, Number, OPERAND_LIMIT,
+    OPERATOR_COUNT, Object, Objects, Op, Refusal, SaveName, SectionKind, Sequence, Settings, Shape,
+    Space, Stack, Text, Value, op_name,
+};
+pub use ps_shapes::{
+    Clip, Clips, DevicePoint, Matrix, NoMemory, Paper, Path, Point, Polygon, Polygons, Real, Rule,
+    Segment, Span, Spans, SpansList, Thresholds,
+};
+pub use ranges::{Component, Lengths, LineCap, LineJoin, LineWidth, MiterLimit, PageSide};
+pub use regs::{Pages, Papers, RegField, Regs, SaveMark, Saves};
+pub use state::{State, state_may_be_shared};

@@ -1,0 +1,76 @@
+-- Objects as keys.
+use Rattle.std.specs.Prelude.{ℕ, pos, negsuc, ◌&&◌, ◌==◌, List, true, false, if◌then◌else◌, int_le, int_div, int_rem, Option, Some, None, Result, Ok, Err}
+use Rattle.std.specs.Ordering.{int_eq}
+use Rattle.ps_shapes.specs.declared.numbers.Real.{Real}
+use Rattle.ps_objects.specs.declared.cell.Cell.{Cell}
+use Rattle.ps_objects.specs.declared.error_name.ErrorName.{ErrorName}
+use Rattle.ps_objects.specs.declared.error_name.ErrorName.TheVariants.{TypeCheck}
+use Rattle.ps_objects.specs.declared.key.Key.{Key}
+use Rattle.ps_objects.specs.declared.key.Key.TheVariants as key
+use Rattle.ps_objects.specs.declared.key.KeyForm.{KeyForm}
+use Rattle.ps_objects.specs.declared.key.KeyForm.TheVariants as form
+use Rattle.ps_objects.specs.Operands.{typed}
+use Rattle.ps_objects.specs.declared.object.Object.{Object}
+use Rattle.ps_objects.specs.declared.object.Kind.{Kind}
+use Rattle.ps_objects.specs.declared.object.Kind.TheVariants as kind
+
+-- a whole real with 32 bits is the integer
+abbrev pub real_key : Real → Key
+real_key real =
+    let whole = int_div real.count (pos 16777216) in
+    if int_eq (int_rem real.count (pos 16777216)) (pos 0) && (int_le (negsuc 2147483647) whole && int_le whole (pos 2147483647)) then key.Integer whole else key.Real real
+
+-- an object as a key: null is a typecheck, and of a string the bytes count
+abbrev pub key_form_of : Kind → Result KeyForm ErrorName
+key_form_of (kind.Integer n) = Ok (form.Key (key.Integer n))
+key_form_of (kind.Real r) = Ok (form.Key (real_key r))
+key_form_of (kind.Boolean b) = Ok (form.Key (key.Boolean b))
+key_form_of kind.Null = Err TypeCheck
+key_form_of kind.Mark = Ok (form.Key key.Mark)
+key_form_of (kind.Name n) = Ok (form.Key (key.Name n))
+key_form_of (kind.Operator op) = Ok (form.Key (key.Operator op))
+key_form_of (kind.Str cell start len) = Ok (form.Text (record { cell = cell; start = start; len = len }))
+key_form_of (kind.Array cell start len packed) = Ok (form.Key (key.Array cell start len packed))
+key_form_of (kind.Dict cell) = Ok (form.Key (key.Dict cell))
+key_form_of (kind.File section) = Ok (form.Key (key.File section 0))
+key_form_of (kind.Filter section layer) = Ok (form.Key (key.File section layer))
+key_form_of (kind.Save save) = Ok (form.Key (key.Save save))
+key_form_of (kind.FontId cell) = Ok (form.Key (key.FontId cell))
+
+abbrev pub key_form_at : ℕ → List Object → Result KeyForm ErrorName
+key_form_at = typed key_form_of
+
+-- the object that a key is told as; the text of a section is layer 0
+abbrev pub key_kind : Key → Kind
+key_kind (key.Name n) = kind.Name n
+key_kind (key.Integer n) = kind.Integer n
+key_kind (key.Real r) = kind.Real r
+key_kind (key.Boolean b) = kind.Boolean b
+key_kind (key.Operator op) = kind.Operator op
+key_kind (key.Dict cell) = kind.Dict cell
+key_kind (key.Array cell start len packed) = kind.Array cell start len packed
+key_kind (key.File section layer) = if layer == 0 then kind.File section else kind.Filter section layer
+key_kind (key.Save save) = kind.Save save
+key_kind (key.FontId cell) = kind.FontId cell
+key_kind key.Mark = kind.Mark
+
+-- the cell that a key names
+abbrev pub key_cell : Key → Option Cell
+key_cell (key.Dict cell) = Some cell
+key_cell (key.Array cell _ _ _) = Some cell
+key_cell _ = None
+
+-- the order of the kinds of keys
+abbrev pub kind_rank : Key → ℕ
+kind_rank (key.Name _) = 0
+kind_rank (key.Integer _) = 1
+kind_rank (key.Real _) = 2
+kind_rank (key.Boolean false) = 3
+kind_rank (key.Boolean true) = 4
+kind_rank (key.Operator _) = 5
+kind_rank (key.Dict _) = 6
+kind_rank (key.Array _ _ _ _) = 7
+kind_rank (key.File _ _) = 8
+kind_rank (key.Save _) = 9
+kind_rank (key.FontId _) = 10
+kind_rank key.Mark = 11

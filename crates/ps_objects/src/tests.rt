@@ -1,0 +1,115 @@
+use super::*;
+use std::test::Fail;
+
+fn name(rt: &HostRuntime, bytes: &[u8]) -> Result<Name, Refusal> {
+    Name::within_limit(rt.alloc(), bytes)
+}
+
+fn literal(kind: Kind) -> Object {
+    Object {
+        kind,
+        exec: false,
+        access: Access::Unlimited,
+    }
+}
+
+const CELL: Cell = Cell {
+    section: 2,
+    count: 7,
+    space: Space::Local,
+};
+
+#[test]
+fn copies_are_equal(rt: HostRuntime) -> Result<(), Fail> {
+    let array = Kind::Array {
+        cell: CELL,
+        start: 1,
+        len: 3,
+        packed: true,
+    };
+    let object = literal(array);
+    assert!(rt; object.copy()? == object);
+    assert!(rt; object.kind.cell() == Some(CELL));
+    let mut text = Text::from_bytes(rt.alloc(), b"PostScript")?;
+    text.push(b' ')?;
+    text.extend(b"Level 2")?;
+    assert!(rt; text.copy()?.as_slice() == b"PostScript Level 2".as_slice());
+    let mut keys = Keys::new(rt.alloc());
+    keys.push(Key::Name(name(&rt, b"a name of more than sixteen bytes")?))?;
+    keys.push(Key::Mark)?;
+    assert!(rt; keys.copy()? == keys);
+    assert!(rt; keys.len() == 2);
+    let place = Loc::Entry {
+        dict: CELL,
+        key: Key::Boolean(true),
+    };
+    assert!(rt; place.copy()? == place);
+    let value = Value::Paper(Paper::blank(rt.alloc(), 3, 2)?);
+    assert!(rt; value.copy()? == value);
+    let mut operands = Objects::new(rt.alloc());
+    operands.push(literal(Kind::Null))?;
+    operands.push(object)?;
+    assert!(rt; operands.copy()? == operands);
+    Ok(())
+}
+
+#[test]
+fn keys_are_in_their_order(rt: HostRuntime) -> Result<(), Fail> {
+    let one = Real { count: 16777216 };
+    assert!(rt; Kind::Real(one).key_form()? == KeyForm::Key(Key::Integer(1)));
+    let mut keys = Keys::new(rt.alloc());
+    keys.push(Key::Name(name(&rt, b"abc")?))?;
+    keys.push(Key::Name(name(&rt, b"abd")?))?;
+    keys.push(Key::Integer(-3))?;
+    keys.push(Key::Integer(2))?;
+    keys.push(Key::Real(Real { count: 1 }))?;
+    keys.push(Key::Boolean(false))?;
+    keys.push(Key::Boolean(true))?;
+    keys.push(Key::Operator(Op::default_entry(ErrorName::Undefined)))?;
+    keys.push(Key::Dict(CELL))?;
+    keys.push(Key::Array {
+        cell: CELL,
+        start: 0,
+        len: 9,
+        packed: false,
+    })?;
+    keys.push(Key::File {
+        section: 1,
+        layer: 4,
+    })?;
+    keys.push(Key::File {
+        section: 2,
+        layer: 0,
+    })?;
+    keys.push(Key::Save(SaveName {
+        section: 1,
+        count: 0,
+    }))?;
+    keys.push(Key::FontId(CELL))?;
+    keys.push(Key::Mark)?;
+    let keys = keys.into_vec();
+    assert!(rt; keys.as_slice().windows(2).all(|pair| pair[0] < pair[1]));
+    Ok(())
+}
+
+#[test]
+fn operators_have_names(rt: HostRuntime) -> Result<(), Fail> {
+    let add = Op::from_index(12).ok_or("no operator")?;
+    assert!(rt; op_name(add) == b"add".as_slice());
+    let last = Op::default_entry(ErrorName::VmError);
+    assert!(rt; op_name(last) == ErrorName::VmError.as_bytes());
+    assert!(rt; Op::from_index(OPERATOR_COUNT).is_none());
+    let mut operands = Objects::new(rt.alloc());
+    for n in 0..4 {
+        operands.push(literal(Kind::Integer(n)))?;
+    }
+    operands.roll(3, 1);
+    assert!(rt; operands.integer(0) == Ok(2));
+    operands.exchange();
+    assert!(rt; operands.integer(1) == Ok(2));
+    operands.shrink(3);
+    assert!(rt; operands.need(2) == Err(ErrorName::StackUnderflow));
+    assert!(rt; operands.pop().is_some());
+    assert!(rt; operands.is_empty());
+    Ok(())
+}

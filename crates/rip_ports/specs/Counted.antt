@@ -1,0 +1,6 @@
+-- A reader or a writer, and how often it has failed.
+use Rattle.std.specs.Prelude.{ℕ}
+
+pub record Counted (D : Type 0) : Type 0 where
+  pub device : D
+  pub faults : ℕ

@@ -1,0 +1,5 @@
+mod Answering
+mod Giving
+mod Pieces
+mod Sinks
+mod Tokens
