@@ -54,3 +54,7 @@ abbrev pub LeavesPlain : List ℕ → Scan → Type 0
 LeavesPlain text (scan.Token _ next) = is_plain (drop next text) ≡ true
 LeavesPlain text (scan.Bad _ next) = is_plain (drop next text) ≡ true
 LeavesPlain text scan.End = Unit {0}
+
+-- a scan of a plain text
+abbrev pub PlainScan : List ℕ → Scan → Type 0
+PlainScan text scan = IsPlainScan scan × LeavesPlain text scan

@@ -1,7 +1,7 @@
 //! Tokens.
 ghost use Rattle.std.specs.Prelude.{◌≡◌, ◌+◌, ◌<◌, ◌≤◌, ◌^◌, List, ℕ, length, drop, IfOk, true};
 ghost use Rattle.ps_scan.specs.Token.{MovesOn, token_from, token_at};
-ghost use Rattle.ps_scan.specs.Simple.{is_plain, IsPlainScan, LeavesPlain};
+ghost use Rattle.ps_scan.specs.Simple.{is_plain, PlainScan};
 
 use crate::characters::{blank_length, is_delimiter};
 use crate::rows::row_at;
@@ -68,6 +68,7 @@ pub fn next(alloc: Global, text: &[u8], pos: u64) -> Result<Scan, NoMemory>
     requires { pos ≤ length text.now }
     ensures token { IfOk result (λ scan. scan ≡ token_at text.now pos) }
     ensures moves { IfOk result (λ scan. MovesOn pos (length text.now) scan) }
+    ensures plain { IfOk result (λ scan. is_plain (drop pos text.now) ≡ true → PlainScan text.now scan) }
 {
     token_at(alloc, text, pos as usize)
 }
@@ -75,5 +76,5 @@ pub fn next(alloc: Global, text: &[u8], pos: u64) -> Result<Scan, NoMemory>
 /// In a plain text there are plain tokens alone, and what follows each is plain.
 pub fn simple_scans()
     ensures { (text : List ℕ) (place : ℕ) → is_plain (drop place text) ≡ true →
-        IsPlainScan (token_at text place) × LeavesPlain text (token_at text place) }
+        PlainScan text (token_at text place) }
 {}
