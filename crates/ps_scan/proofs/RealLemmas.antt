@@ -1,6 +1,6 @@
 -- Significands and powers of ten.
-use Rattle.std.proofs.Common.{◌≡◌, ℕ, suc, ◌+◌, ◌-◌, ◌*◌, ◌^◌, ◌<◌, ◌≤◌, ◌⊎◌, inl, inr, min, Bool, true, false, ◌&&◌, cond, eqb, ltb, List, [], ◌∷◌, ◌++◌, length, take, drop, get_or, length-append, refl, ap, sym, subst, ◌∙◌, arith}
-use Rattle.std.specs.Prelude.{ℤ, pos, negsuc, neg_ℤ, ◌+ℤ◌, ◌-ℤ◌, ◌<ℤ◌, Ok, Err, filter}
+use Rattle.std.proofs.Common.{◌≡◌, ℕ, suc, ◌+◌, ◌-◌, ◌*◌, ◌^◌, ◌<◌, ◌≤◌, inl, inr, min, Bool, true, false, ◌&&◌, cond, eqb, ltb, List, [], ◌∷◌, ◌++◌, length, take, drop, get_or, length-append, refl, ap, sym, ◌∙◌, arith}
+use Rattle.std.specs.Prelude.{ℤ, pos, negsuc, ◌+ℤ◌, ◌-ℤ◌, ◌<ℤ◌, Ok, Err, filter}
 use Rattle.std.specs.Char.{is_ascii_digit, digit_value}
 use Rattle.std.specs.List.{prefix_len, after_first}
 use Rattle.std.specs.Str.Parse.{digits_value}
@@ -97,14 +97,15 @@ pub value_push : (xs : List ℕ) (b v n : ℕ) → v ≡ digits_value 10 (take 1
     cond (ltb n 18) (v * 10 + digit_value b) v ≡ digits_value 10 (take 18 (xs ++ (b ∷ [])))
 value_push xs b v n is count =
     elim (cases_lt n 18) [
-      inl below ↦
-        let test : ltb n 18 ≡ true = grind (arith, nat_tests) in
-        let all : take 18 xs ≡ xs = take_all 18 xs (omega arith) in
-        let more : take 18 (xs ++ (b ∷ [])) ≡ xs ++ (b ∷ []) = take_all 18 (xs ++ (b ∷ [])) (omega (arith, length-append xs (b ∷ []))) in
-        rw test (ap (λ (k : ℕ). k * 10 + digit_value b) (is ∙ ap (digits_value 10) all) ∙ sym (ap (digits_value 10) more ∙ digits_value_push 10 xs b))
-    | inr above ↦
-        let test : ltb n 18 ≡ false = grind (arith, nat_tests) in
-        rw test (is ∙ ap (digits_value 10) (sym (take-append-le 18 xs (b ∷ []) (omega arith)))) ]
+      | inl below ↦
+          let test : ltb n 18 ≡ true = grind (arith, nat_tests) in
+          let all : take 18 xs ≡ xs = take_all 18 xs (omega arith) in
+          let more : take 18 (xs ++ (b ∷ [])) ≡ xs ++ (b ∷ []) = take_all 18 (xs ++ (b ∷ [])) (omega (arith, length-append xs (b ∷ []))) in
+          rw test (ap (λ (k : ℕ). k * 10 + digit_value b) (is ∙ ap (digits_value 10) all) ∙ sym (ap (digits_value 10) more ∙ digits_value_push 10 xs b))
+      | inr above ↦
+          let test : ltb n 18 ≡ false = grind (arith, nat_tests) in
+          rw test (is ∙ ap (digits_value 10) (sym (take-append-le 18 xs (b ∷ []) (omega arith))))
+    ]
 
 strip_is : (m : List ℕ) → significant m ≡ strip (filter is_ascii_digit m)
 unfolding strip
@@ -139,9 +140,9 @@ significand_step found m i d within same digit is =
     let b = get_or m i 0 in
     let xs = strip (filter is_ascii_digit (take i m)) in
     let more : filter is_ascii_digit (take (i + 1) m) ≡ filter is_ascii_digit (take i m) ++ (b ∷ []) =
-        filter_more is_ascii_digit m i 0 within ∙ ap (λ (t : List ℕ). filter is_ascii_digit (take i m) ++ t) (cond_true (is_ascii_digit b) _ _ digit) in
+    filter_more is_ascii_digit m i 0 within ∙ ap (λ (t : List ℕ). filter is_ascii_digit (take i m) ++ t) (cond_true (is_ascii_digit b) _ _ digit) in
     let now : significant (take (i + 1) m) ≡ cond (eqb (length xs) 0 && eqb b 48) [] (xs ++ (b ∷ [])) =
-        strip_is (take (i + 1) m) ∙ ap strip more ∙ strip_push (filter is_ascii_digit (take i m)) b in
+    strip_is (take (i + 1) m) ∙ ap strip more ∙ strip_push (filter is_ascii_digit (take i m)) b in
     let value : found.value ≡ digits_value 10 (take 18 xs) = is.value ∙ ap (λ (ds : List ℕ). digits_value 10 (take 18 ds)) (strip_is (take i m)) in
     let count : found.digits ≡ length xs = is.digits ∙ ap length (strip_is (take i m)) in
     let zero : eqb d 0 ≡ eqb b 48 = ap (λ (k : ℕ). eqb k 0) same ∙ digit_is_zero b digit in
@@ -152,7 +153,7 @@ pub significand_other : (found : Significand) (m : List ℕ) (i : ℕ) → i < l
     IsSignificand found (take i m) → IsSignificand found (take (i + 1) m)
 significand_other found m i within other is =
     let same : filter is_ascii_digit (take (i + 1) m) ≡ filter is_ascii_digit (take i m) =
-        filter_more is_ascii_digit m i 0 within ∙ ap (λ (t : List ℕ). filter is_ascii_digit (take i m) ++ t) (cond_false (is_ascii_digit (get_or m i 0)) _ _ other) ∙ append-nil _ in
+    filter_more is_ascii_digit m i 0 within ∙ ap (λ (t : List ℕ). filter is_ascii_digit (take i m) ++ t) (cond_false (is_ascii_digit (get_or m i 0)) _ _ other) ∙ append-nil _ in
     let now : significant (take (i + 1) m) ≡ significant (take i m) = strip_is (take (i + 1) m) ∙ ap strip same ∙ sym (strip_is (take i m)) in
     record { value = is.value ∙ ap (λ (ds : List ℕ). digits_value 10 (take 18 ds)) (sym now); digits = is.digits ∙ ap length (sym now) }
 
@@ -177,9 +178,9 @@ unfolding real_value
 real_is row front exponent found f d near front_is exponent_is is small near_is f_is d_is hf hd =
     let power = exponent_near exponent f d hf hd in
     decimal_near (is_negative row) found.value near (capped_exponent (2 ^ 64 - 1) exponent -ℤ pos f +ℤ pos d) small near_is
-        ∙ decimal_near (is_negative row) found.value (capped_exponent (2 ^ 64 - 1) exponent -ℤ pos f +ℤ pos d) (exponent_value exponent -ℤ pos f +ℤ pos d) small power
-        ∙ ap (λ (v : ℕ). decimal_of (is_negative row) v (exponent_value exponent -ℤ pos f +ℤ pos d)) (is.value ∙ ap significand front_is)
-        ∙ ap (λ (k : ℕ). decimal_of (is_negative row) (significand (mantissa row)) (exponent_value exponent -ℤ pos k +ℤ pos d)) (f_is ∙ ap (λ (m : List ℕ). length (after_first is_point m)) front_is)
-        ∙ ap (λ (k : ℕ). decimal_of (is_negative row) (significand (mantissa row)) (exponent_value exponent -ℤ pos (length (after_first is_point (mantissa row))) +ℤ pos k))
-            (d_is ∙ ap (λ (k : ℕ). k - 18) (is.digits ∙ ap (λ (m : List ℕ). length (significant m)) front_is))
-        ∙ ap (λ (e : List ℕ). decimal_of (is_negative row) (significand (mantissa row)) (scale (mantissa row) (exponent_value e))) exponent_is
+    ∙ decimal_near (is_negative row) found.value (capped_exponent (2 ^ 64 - 1) exponent -ℤ pos f +ℤ pos d) (exponent_value exponent -ℤ pos f +ℤ pos d) small power
+    ∙ ap (λ (v : ℕ). decimal_of (is_negative row) v (exponent_value exponent -ℤ pos f +ℤ pos d)) (is.value ∙ ap significand front_is)
+    ∙ ap (λ (k : ℕ). decimal_of (is_negative row) (significand (mantissa row)) (exponent_value exponent -ℤ pos k +ℤ pos d)) (f_is ∙ ap (λ (m : List ℕ). length (after_first is_point m)) front_is)
+    ∙ ap (λ (k : ℕ). decimal_of (is_negative row) (significand (mantissa row)) (exponent_value exponent -ℤ pos (length (after_first is_point (mantissa row))) +ℤ pos k))
+    (d_is ∙ ap (λ (k : ℕ). k - 18) (is.digits ∙ ap (λ (m : List ℕ). length (significant m)) front_is))
+    ∙ ap (λ (e : List ℕ). decimal_of (is_negative row) (significand (mantissa row)) (scale (mantissa row) (exponent_value e))) exponent_is

@@ -133,9 +133,14 @@ closes depth b bs h = rw h refl
 pub body_closed : (limited : Limited) (text rest tail : List ℕ) (depth b : ℕ) → rest ≡ b ∷ tail → (eqb depth 0 && eqb b 41) ≡ true →
     Read limited text rest depth → (bytes : List ℕ) × (Keeps limited bytes × (string_body 0 0 text ≡ Some (bytes, length text - length rest + 1)))
 body_closed limited text rest tail depth b is closing read =
-    let taken = length text - length rest in
-    (read.0, (read.1.0, read.1.1 ∙ ap (ahead read.0 taken) (ap (string_body depth 0) is ∙ closes depth b tail closing)
-        ∙ same_body (read.0 ++ []) read.0 (taken + 1) (taken + 1) (append-nil read.0) refl))
+    let taken = length text - length rest in (
+      read.0,
+      (
+        read.1.0,
+        read.1.1 ∙ ap (ahead read.0 taken) (ap (string_body depth 0) is ∙ closes depth b tail closing)
+            ∙ same_body (read.0 ++ []) read.0 (taken + 1) (taken + 1) (append-nil read.0) refl,
+      ),
+    )
 
 step_at : (rest tail after : List ℕ) (depth b n : ℕ) (byte : Option ℕ) → rest ≡ b ∷ tail → (eqb depth 0 && eqb b 41) ≡ false →
     byte ≡ piece_byte rest → n ≡ piece_length rest → after ≡ drop n rest →
@@ -146,22 +151,26 @@ step_at rest tail after depth b n byte is stays byte_is n_is after_is =
     let r : drop n (b ∷ tail) ≡ after = ap (drop n) (sym is) ∙ sym after_is in
     let deeper = depth_after b depth in
     ap (string_body depth 0) is ∙ piece_step depth b tail stays
-        ∙ ap (λ (x : Option ℕ). ahead (option_to_list x) (piece_length (b ∷ tail)) (string_body deeper 0 (drop (piece_length (b ∷ tail)) (b ∷ tail)))) p
-        ∙ ap (λ (k : ℕ). ahead (option_to_list byte) k (string_body deeper 0 (drop k (b ∷ tail)))) q
-        ∙ ap (λ (s : List ℕ). ahead (option_to_list byte) n (string_body deeper 0 s)) r
+    ∙ ap (λ (x : Option ℕ). ahead (option_to_list x) (piece_length (b ∷ tail)) (string_body deeper 0 (drop (piece_length (b ∷ tail)) (b ∷ tail)))) p
+    ∙ ap (λ (k : ℕ). ahead (option_to_list byte) k (string_body deeper 0 (drop k (b ∷ tail)))) q
+    ∙ ap (λ (s : List ℕ). ahead (option_to_list byte) n (string_body deeper 0 s)) r
 
 pub body_step : (limited new : Limited) (text rest tail after : List ℕ) (depth deeper b n : ℕ) (byte : Option ℕ) →
     rest ≡ b ∷ tail → (eqb depth 0 && eqb b 41) ≡ false → byte ≡ piece_byte rest → n ≡ piece_length rest → after ≡ drop n rest → deeper ≡ depth_after b depth →
     n ≤ length rest → length rest ≤ length text → ((bytes : List ℕ) → Keeps limited bytes → Keeps new (bytes ++ option_to_list byte)) →
     Read limited text rest depth → Read new text after deeper
 body_step limited new text rest tail after depth deeper b n byte is stays byte_is n_is after_is deeper_is within inside push read =
-    let count : length text - length rest + n ≡ length text - length after = omega (arith, ap length after_is, length-drop n rest) in
-    (read.0 ++ option_to_list byte, (push read.0 read.1.0,
+    let count : length text - length rest + n ≡ length text - length after = omega (arith, ap length after_is, length-drop n rest) in (
+      read.0 ++ option_to_list byte,
+      (
+        push read.0 read.1.0,
         read.1.1
-        ∙ ap (ahead read.0 (length text - length rest)) (step_at rest tail after depth b n byte is stays byte_is n_is after_is)
-        ∙ ahead_ahead read.0 (option_to_list byte) (length text - length rest) n (string_body (depth_after b depth) 0 after)
-        ∙ ap (λ (k : ℕ). ahead (read.0 ++ option_to_list byte) k (string_body (depth_after b depth) 0 after)) count
-        ∙ ap (λ (d : ℕ). ahead (read.0 ++ option_to_list byte) (length text - length after) (string_body d 0 after)) (sym deeper_is)))
+            ∙ ap (ahead read.0 (length text - length rest)) (step_at rest tail after depth b n byte is stays byte_is n_is after_is)
+            ∙ ahead_ahead read.0 (option_to_list byte) (length text - length rest) n (string_body (depth_after b depth) 0 after)
+            ∙ ap (λ (k : ℕ). ahead (read.0 ++ option_to_list byte) k (string_body (depth_after b depth) 0 after)) count
+            ∙ ap (λ (d : ℕ). ahead (read.0 ++ option_to_list byte) (length text - length after) (string_body d 0 after)) (sym deeper_is),
+      ),
+    )
 
 pub body_cut : (limited : Limited) (text rest : List ℕ) (depth : ℕ) → length rest ≡ 0 → Read limited text rest depth → string_body 0 0 text ≡ None
 unfolding string_body
@@ -222,7 +231,7 @@ pub hex_second : (bytes : List ℕ) (high : ℕ) (text : List ℕ) (i : ℕ) (wh
     whole ≡ (bytes ++ ((digit_value high * 16 + digit_value (get_or text i 0)) ∷ [])) ++ pairs (filter is_hex_digit (drop (i + 1) text))
 hex_second bytes high text i whole within digit is =
     is ∙ ap (λ (ds : List ℕ). bytes ++ pairs (high ∷ ds)) (filter_at text i within ∙ cond_true (is_hex_digit (get_or text i 0)) _ _ digit)
-        ∙ sym (append_assoc bytes ((digit_value high * 16 + digit_value (get_or text i 0)) ∷ []) (pairs (filter is_hex_digit (drop (i + 1) text))))
+    ∙ sym (append_assoc bytes ((digit_value high * 16 + digit_value (get_or text i 0)) ∷ []) (pairs (filter is_hex_digit (drop (i + 1) text))))
 
 -- what was read of a string in angle brackets, with a digit that waits for its second
 abbrev pub HexRead : Limited → Option ℕ → List ℕ → ℕ → Type 0
@@ -260,4 +269,4 @@ short_enough limited bytes next below keeps =
     let test : nat_le (length bytes) 65535 ≡ true = grind (arith, nat_tests) in
     let same : limited.text ≡ bytes = keeps.text ∙ take_all 65535 bytes short in
     ap (λ (t : List ℕ). scan_of (Ok (token.Str t)) next) same
-        ∙ ap (λ (r : Result Token ErrorName). scan_of r next) (sym (cond_true (nat_le (length bytes) 65535) (Ok (token.Str bytes)) (Err LimitCheck) test))
+    ∙ ap (λ (r : Result Token ErrorName). scan_of r next) (sym (cond_true (nat_le (length bytes) 65535) (Ok (token.Str bytes)) (Err LimitCheck) test))

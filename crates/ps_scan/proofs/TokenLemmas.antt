@@ -113,7 +113,7 @@ body_within depth (suc passed) [] = tt
 body_within depth (suc passed) (b ∷ bs) = onto_within None (length bs) (string_body depth passed bs) (body_within depth passed bs)
 body_within depth zero (b ∷ bs) =
     closing_or_piece (eqb depth 0 && eqb b 41) (length bs) _
-        (onto_within (piece_byte (b ∷ bs)) (length bs) _ (body_within (depth_after b depth) (piece_length (b ∷ bs) - 1) bs))
+    (onto_within (piece_byte (b ∷ bs)) (length bs) _ (body_within (depth_after b depth) (piece_length (b ∷ bs) - 1) bs))
 
 body_moves : (before place end : ℕ) (text : List ℕ) (body : Option (List ℕ × ℕ)) → before < place → BodyWithin (length text) body → end ≡ place + length text →
     MovesOn before end (body_token place end body)
@@ -183,7 +183,7 @@ unfolding token_from
 from_step place b bs true d =
     let whole : place + 1 + length bs ≡ place + length (b ∷ bs) = omega arith in
     rw d (subst (λ (end : ℕ). MovesOn place end (special_at (place + 1) b bs)) whole
-        (special_step place (place + 1) b bs (eqb b 47) (eqb b 40) (eqb b 60) (eqb b 62) refl refl refl refl (omega arith)))
+    (special_step place (place + 1) b bs (eqb b 47) (eqb b 40) (eqb b 60) (eqb b 62) refl refl refl refl (omega arith)))
 from_step place b bs false d = rw d (row_moves place (b ∷ bs) (row_is_longer b bs d))
 
 from_moves : (place : ℕ) (text : List ℕ) → MovesOn place (place + length text) (token_from place text)
@@ -256,7 +256,7 @@ row_leaves text place front is_front plain =
     let n = length (before_first is_delimiter front) in
     let behind : is_plain (drop n front) ≡ true = ap (λ (k : ℕ). is_plain (drop k front)) (length-row front) ∙ after_row_is_plain front plain in
     let place_is : drop (place + n + closing (drop n front)) text ≡ drop (closing (drop n front)) (drop n front) =
-        sym (drop-drop (closing (drop n front)) (place + n) text) ∙ ap (drop (closing (drop n front))) (sym (drop-drop n place text) ∙ ap (drop n) is_front) in
+    sym (drop-drop (closing (drop n front)) (place + n) text) ∙ ap (drop (closing (drop n front))) (sym (drop-drop n place text) ∙ ap (drop n) is_front) in
     scan_leaves text (row_token (before_first is_delimiter front)) (place + n + closing (drop n front)) (ap is_plain place_is ∙ closing_plain (drop n front) behind)
 
 row_scan_plain : (row : List ℕ) (next : ℕ) (short integer decimal radix : Bool) (value : Option ℤ) → nat_le (length row) 127 ≡ short → is_integer row ≡ integer →

@@ -1,5 +1,5 @@
 -- Strings that are read up to a limit.
-use Rattle.std.specs.Prelude.{◌≡◌, ℕ, ◌+◌, List, length, take, Option, Some, None}
+use Rattle.std.specs.Prelude.{◌≡◌, ℕ, List, length, take, Option, Some, None}
 use Rattle.ps_scan.specs.Strings.{string_limit}
 use Rattle.ps_scan.specs.declared.strings.Limited.{Limited}
 use Rattle.ps_scan.specs.declared.strings.Body.{Body}

@@ -1,5 +1,5 @@
 -- Significands that are read digit by digit.
-use Rattle.std.specs.Prelude.{◌≡◌, ℕ, ◌+◌, ◌*◌, min, ℤ, pos, negsuc, ◌<ℤ◌, Bool, true, false, ◌&&◌, ◌==◌, nat_lt, List, [], ◌∷◌, length, ◌⊎◌, if◌then◌else◌}
+use Rattle.std.specs.Prelude.{◌≡◌, ℕ, ◌+◌, ◌*◌, min, ℤ, pos, negsuc, ◌<ℤ◌, ◌&&◌, ◌==◌, nat_lt, List, [], ◌∷◌, length, ◌⊎◌, if◌then◌else◌}
 use Rattle.std.specs.Str.Parse.{digits_value}
 use Rattle.ps_fixed.specs.Decimals.{signed_by}
 use Rattle.ps_scan.specs.Numbers.{is_negative, unsigned, significant, significand}

@@ -8,6 +8,8 @@ mod rows;
 mod simple_texts;
 mod specials;
 mod strings;
+#[cfg(test)]
+mod tests;
 mod tokens;
 
 pub use simple_texts::simple;

@@ -1,5 +1,3 @@
-use Rattle.std.proofs.Common.{ap, ◌∙◌, arith}
-use Rattle.ps_scan.specs.Token.{scan_of}
 use Rattle.ps_scan.proofs.StringLemmas.{too_long, short_enough}
 use Rattle.ps_scan.proofs.specials.string_scan.Goals as goal
 

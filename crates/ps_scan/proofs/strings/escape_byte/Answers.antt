@@ -1,6 +1,4 @@
-use Rattle.std.proofs.Common.{◌≡◌, ℕ, ◌%◌, ◌-◌, ◌^◌, ◌≤◌, ◌∷◌, min, length, take, Some, ap, sym, ◌∙◌, arith}
-use Rattle.std.proofs.lemmas.List.{length-take}
-use Rattle.ps_scan.proofs.StringLemmas.{octal_small, escape_octal}
+use Rattle.ps_scan.proofs.StringLemmas.{escape_octal}
 use Rattle.ps_scan.proofs.strings.escape_byte.Goals as goal
 
 pub returns-then-is_octal : goal.returns-then-is_octal

@@ -1,4 +1,4 @@
-use Rattle.std.proofs.Common.{◌≡◌, ◌<◌, ◌≤◌, ◌++◌, List, ℕ, drop, length, option_to_list, IfSome}
+use Rattle.std.proofs.Common.{◌≡◌, ◌<◌, ◌≤◌, ◌++◌, List, ℕ, drop, option_to_list, IfSome}
 use Rattle.std.specs.Prelude.{filter}
 use Rattle.std.specs.Char.{digit_value}
 use Rattle.ps_scan.specs.Strings.{is_hex_digit, pairs}

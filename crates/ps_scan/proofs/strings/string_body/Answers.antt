@@ -1,5 +1,4 @@
-use Rattle.std.proofs.Common.{◌≡◌, ◌≤◌, ◌+◌, length, sym, ◌∙◌, arith}
-use Rattle.ps_scan.specs.Strings.{depth_after}
+use Rattle.std.proofs.Common.{◌≤◌, ◌+◌, arith}
 use Rattle.ps_scan.proofs.StringLemmas.{body_begins, body_closed, body_step, body_cut, depth_grows}
 use Rattle.ps_scan.proofs.strings.string_body.Goals as goal
 

@@ -15,4 +15,4 @@ pub returns-clause-plain : goal.returns-clause-plain
 returns-clause-plain c =
     let text = c.args.text.now in
     IfOk-weaker c.token_at.result _ _
-        (λ (scan : Scan) (is : scan ≡ token_at text c.args.pos) (plain : is_plain (drop c.args.pos text) ≡ true). subst (PlainScan text) (sym is) (at_plain text c.args.pos plain)) c.token_at.ensures
+    (λ (scan : Scan) (is : scan ≡ token_at text c.args.pos) (plain : is_plain (drop c.args.pos text) ≡ true). subst (PlainScan text) (sym is) (at_plain text c.args.pos plain)) c.token_at.ensures

@@ -1,4 +1,4 @@
-use Rattle.std.proofs.Common.{◌≡◌, ◌<◌, [], ◌∷◌, ◌++◌, arith}
+use Rattle.std.proofs.Common.{◌≡◌, ◌<◌, [], ◌∷◌, ◌++◌}
 use Rattle.ps_scan.proofs.StringLemmas.{keeps_within, keeps_beyond}
 use Rattle.ps_scan.proofs.strings.Limited.push.Goals as goal
 
