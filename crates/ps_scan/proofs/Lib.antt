@@ -4,3 +4,4 @@ pub mod PlainLemmas
 pub mod TokenLemmas
 pub mod StringLemmas
 pub mod RealLemmas
+pub mod PrintedLemmas

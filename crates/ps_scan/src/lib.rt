@@ -13,4 +13,4 @@ mod tests;
 mod tokens;
 
 pub use simple_texts::simple;
-pub use tokens::{Scan, Token, next};
+pub use tokens::{Scan, Token, next, printed_integers_scan, simple_scans};

@@ -1,5 +1,7 @@
 //! Tokens.
-ghost use Rattle.std.specs.Prelude.{◌≡◌, ◌+◌, ◌<◌, ◌≤◌, ◌^◌, List, ℕ, length, drop, IfOk, true};
+ghost use Rattle.std.specs.Prelude.{◌≡◌, ◌+◌, ◌<◌, ◌≤◌, ◌^◌, ℤ, pos, neg_ℤ, ◌≤ℤ◌, ◌<ℤ◌, List, ◌∷◌, ◌++◌, ℕ, length, drop, IfOk, true};
+ghost use Rattle.std.specs.Fmt.{signed_decimal};
+ghost use Rattle.ps_scan.specs.Characters.{is_white, closing};
 ghost use Rattle.ps_scan.specs.Token.{MovesOn, token_from, token_at};
 ghost use Rattle.ps_scan.specs.Simple.{is_plain, PlainScan};
 
@@ -77,4 +79,11 @@ pub fn next(alloc: Global, text: &[u8], pos: u64) -> Result<Scan, NoMemory>
 pub fn simple_scans()
     ensures { (text : List ℕ) (place : ℕ) → is_plain (drop place text) ≡ true →
         PlainScan text (token_at text place) }
+{}
+
+/// A printed integer followed by white space is scanned back, and the white space that ends it is taken.
+pub fn printed_integers_scan()
+    ensures { (z : ℤ) (white place : ℕ) (text rest : List ℕ) → neg_ℤ (pos (2 ^ 31)) ≤ℤ z → z <ℤ pos (2 ^ 31) → is_white white ≡ true →
+        drop place text ≡ signed_decimal z ++ (white ∷ rest) →
+        token_at text place ≡ Scan.Token (Token.Integer z) (place + length (signed_decimal z) + closing (white ∷ rest)) }
 {}
