@@ -2,3 +2,6 @@ pub mod BlankLemmas
 pub mod NumberLemmas
 pub mod PlainLemmas
 pub mod TokenLemmas
+pub mod StringLemmas
+pub mod RealLemmas
+pub mod PrintedLemmas

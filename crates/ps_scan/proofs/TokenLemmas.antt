@@ -1,13 +1,21 @@
 -- Tokens move on, and leave a plain text plain.
-use Rattle.std.proofs.Common.{◌≡◌, ℕ, suc, ◌+◌, ◌≤◌, Bool, true, false, ◌&&◌, not, cond, eqb, List, [], ◌∷◌, length, drop, refl, ap, subst, sym, ◌∙◌, ◌||◌, arith}
+use Rattle.std.proofs.Common.{take, ◌≡◌, ℕ, zero, suc, ◌+◌, ◌≤◌, Bool, true, false, ◌&&◌, not, cond, eqb, List, [], ◌∷◌, length, drop, refl, ap, subst, sym, ◌∙◌, ◌||◌, arith, ◌<◌, ◌-◌}
 use Rattle.std.specs.List.{position_or_len, before_first}
 use Rattle.std.proofs.lemmas.Bool.{and_parts}
 use Rattle.std.proofs.lemmas.Bool.Decides.{nat_tests}
 use Rattle.std.proofs.lemmas.List.{length-take-le, length-drop, drop-drop}
 use Rattle.std.proofs.lemmas.List.Sums.{prefix_len-le-length}
 use Rattle.ps_scan.specs.Characters.{is_white, is_delimiter, is_line_end, blanks, closing}
-use Rattle.ps_scan.specs.Token.{row_at, token_from, token_at, MovesOn}
-use Rattle.ps_scan.specs.Simple.{is_plain_byte, is_plain_row, is_plain, LeavesPlain}
+use Rattle.ps_scan.specs.Token.{scan_of, name_token, row_token, after_row, row_at, name_at, slash_at, string_token, body_token, string_at, hex_token, hex_at, less_at, greater_at, bracket, special_at, token_from, token_at, MovesOn}
+use Rattle.ps_scan.specs.Numbers.{is_integer, integer_value, is_decimal, is_radix}
+use Rattle.ps_scan.specs.Simple.{is_plain_byte, is_plain_row, is_plain, IsPlainScan, LeavesPlain, PlainScan}
+use Rattle.std.specs.Prelude.{ℤ, nat_le, is_some, Option, Some, None, Result, Ok, Err}
+use Rattle.std.specs.List.{prefix_len}
+use Rattle.ps_objects.specs.declared.error_name.ErrorName.{ErrorName}
+use Rattle.ps_scan.specs.Strings.{is_hex, hex_bytes, onto, piece_byte, piece_length, depth_after, string_body}
+use Rattle.ps_scan.specs.declared.rows.NameKind.{NameKind}
+use Rattle.ps_scan.specs.declared.rows.NameKind.TheVariants as kinds
+use Rattle.ps_scan.specs.declared.tokens.Token.{Token}
 use Rattle.ps_scan.specs.declared.tokens.Scan.{Scan}
 use Rattle.ps_scan.specs.declared.tokens.Scan.TheVariants as scans
 use Rattle.ps_scan.proofs.PlainLemmas.{plain_special, plain_row, plain_blanks, plain_end, no_blank_after, plain_white}
@@ -37,9 +45,15 @@ length-row text = let within = row-le-length text in length-take-le (position_or
 row_is_longer : (b : ℕ) (bs : List ℕ) → is_delimiter b ≡ false → 1 ≤ position_or_len is_delimiter (b ∷ bs)
 row_is_longer b bs d = rw d (omega arith)
 
-row_moves : (place : ℕ) (text : List ℕ) → 1 ≤ position_or_len is_delimiter text → MovesOn place (place + length text) (row_at place text)
-unfolding row_at
-row_moves place text h =
+-- a token or an error moves on where its place does
+scan_moves : (found : Result Token ErrorName) (place end next : ℕ) → place < next → next ≤ end → MovesOn place end (scan_of found next)
+scan_moves (Ok t) place end next h k = (h, k)
+scan_moves (Err e) place end next h k = (h, k)
+
+-- the end of a row, where some byte was read before it
+after_row_moves : (place : ℕ) (text : List ℕ) → (place ≤ after_row place text) × (after_row place text ≤ place + length text)
+unfolding after_row
+after_row_moves place text =
     let row = before_first is_delimiter text in
     let e = length-row text in
     let within = row-le-length text in
@@ -47,17 +61,135 @@ row_moves place text h =
     let rest = length-drop (length row) text in
     (omega arith, omega arith)
 
-from_step : (place b : ℕ) (bs : List ℕ) (delimiter brace : Bool) → is_delimiter b ≡ delimiter → eqb b 125 ≡ brace →
-    MovesOn place (place + length (b ∷ bs)) (token_from place (b ∷ bs))
+after_row_longer : (place : ℕ) (text : List ℕ) → 1 ≤ position_or_len is_delimiter text → place < after_row place text
+unfolding after_row
+after_row_longer place text h =
+    let row = before_first is_delimiter text in
+    let e = length-row text in
+    omega arith
+
+row_moves : (place : ℕ) (text : List ℕ) → 1 ≤ position_or_len is_delimiter text → MovesOn place (place + length text) (row_at place text)
+unfolding row_at
+row_moves place text h =
+    scan_moves (row_token (before_first is_delimiter text)) place (place + length text) (after_row place text) (after_row_longer place text h) (after_row_moves place text).1
+
+name_moves : (how : NameKind) (before place end : ℕ) (text : List ℕ) → before < place → place + length text ≤ end → MovesOn before end (name_at how place text)
+unfolding name_at
+name_moves how before place end text h k =
+    let moved = after_row_moves place text in
+    scan_moves (name_token how (before_first is_delimiter text)) before end (after_row place text) (omega arith) (omega arith)
+
+slash_step : (before place b : ℕ) (bs : List ℕ) (slash : Bool) → eqb b 47 ≡ slash → before < place → MovesOn before (place + length (b ∷ bs)) (slash_at place (b ∷ bs))
+unfolding slash_at
+slash_step before place b bs true e h = rw e (name_moves kinds.Immediate before (place + 1) (place + length (b ∷ bs)) bs (omega arith) (omega arith))
+slash_step before place b bs false e h = rw e (name_moves kinds.Literal before place (place + length (b ∷ bs)) (b ∷ bs) h (omega arith))
+
+slash_moves : (before place : ℕ) (text : List ℕ) → before < place → MovesOn before (place + length text) (slash_at place text)
+unfolding slash_at
+slash_moves before place [] h = name_moves kinds.Literal before place (place + 0) [] h (omega arith)
+slash_moves before place (b ∷ bs) h = slash_step before place b bs (eqb b 47) refl h
+
+-- a string ends within the text
+BodyWithin : ℕ → Option (List ℕ × ℕ) → Type 0
+BodyWithin end None = Unit {0}
+BodyWithin end (Some body) = body.1 ≤ end
+
+onto_within : (byte : Option ℕ) (end : ℕ) (body : Option (List ℕ × ℕ)) → BodyWithin end body → BodyWithin (suc end) (onto byte body)
+unfolding BodyWithin
+onto_within None end None h = tt
+onto_within (Some b) end None h = tt
+onto_within None end (Some body) h = omega arith
+onto_within (Some b) end (Some body) h = omega arith
+
+closing_or_piece : (closing : Bool) (end : ℕ) (body : Option (List ℕ × ℕ)) → BodyWithin (suc end) body → BodyWithin (suc end) (cond closing (Some ([], 1)) body)
+unfolding BodyWithin
+closing_or_piece true end body h = omega arith
+closing_or_piece false end body h = h
+
+body_within : (depth passed : ℕ) (text : List ℕ) → BodyWithin (length text) (string_body depth passed text)
+unfolding BodyWithin string_body
+body_within depth zero [] = tt
+body_within depth (suc passed) [] = tt
+body_within depth (suc passed) (b ∷ bs) = onto_within None (length bs) (string_body depth passed bs) (body_within depth passed bs)
+body_within depth zero (b ∷ bs) =
+    closing_or_piece (eqb depth 0 && eqb b 41) (length bs) _
+    (onto_within (piece_byte (b ∷ bs)) (length bs) _ (body_within (depth_after b depth) (piece_length (b ∷ bs) - 1) bs))
+
+body_moves : (before place end : ℕ) (text : List ℕ) (body : Option (List ℕ × ℕ)) → before < place → BodyWithin (length text) body → end ≡ place + length text →
+    MovesOn before end (body_token place end body)
+unfolding BodyWithin
+body_moves before place end text None h within e = (omega arith, omega arith)
+body_moves before place end text (Some body) h within e = scan_moves (string_token body.0) before end (place + body.1) (omega arith) (omega arith)
+
+string_moves : (before place : ℕ) (text : List ℕ) → before < place → MovesOn before (place + length text) (string_at place text)
+unfolding string_at
+string_moves before place text h = body_moves before place (place + length text) text (string_body 0 0 text) h (body_within 0 0 text) refl
+
+hex_step : (digits : List ℕ) (before place b : ℕ) (bs : List ℕ) (angle : Bool) → eqb b 62 ≡ angle → before < place → MovesOn before (place + length (b ∷ bs)) (hex_token digits place (b ∷ bs))
+hex_step digits before place b bs true e h = rw e (scan_moves (string_token (hex_bytes digits)) before (place + length (b ∷ bs)) (place + 1) (omega arith) (omega arith))
+hex_step digits before place b bs false e h = rw e (omega arith, omega arith)
+
+hex_rest_moves : (digits : List ℕ) (before place : ℕ) (rest : List ℕ) → before < place → MovesOn before (place + length rest) (hex_token digits place rest)
+hex_rest_moves digits before place [] h = (h, omega arith)
+hex_rest_moves digits before place (b ∷ bs) h = hex_step digits before place b bs (eqb b 62) refl h
+
+hex_moves : (before place : ℕ) (text : List ℕ) → before < place → MovesOn before (place + length text) (hex_at place text)
+unfolding hex_at
+hex_moves before place text h =
+    let n = prefix_len is_hex text in
+    let whole : place + n + length (drop n text) ≡ place + length text = omega (arith, length-drop n text, prefix_len-le-length is_hex text) in
+    subst (λ (end : ℕ). MovesOn before end (hex_at place text)) whole (hex_rest_moves (take n text) before (place + n) (drop n text) (omega arith))
+
+less_step : (before place b : ℕ) (bs : List ℕ) (angle : Bool) → eqb b 60 ≡ angle → before < place → MovesOn before (place + length (b ∷ bs)) (less_at place (b ∷ bs))
+unfolding less_at
+less_step before place b bs true e h = rw e (omega arith, omega arith)
+less_step before place b bs false e h = rw e (hex_moves before place (b ∷ bs) h)
+
+less_moves : (before place : ℕ) (text : List ℕ) → before < place → MovesOn before (place + length text) (less_at place text)
+unfolding less_at
+less_moves before place [] h = hex_moves before place [] h
+less_moves before place (b ∷ bs) h = less_step before place b bs (eqb b 60) refl h
+
+greater_step : (before place b : ℕ) (bs : List ℕ) (angle : Bool) → eqb b 62 ≡ angle → before < place → MovesOn before (place + length (b ∷ bs)) (greater_at place (b ∷ bs))
+unfolding greater_at
+greater_step before place b bs true e h = rw e (omega arith, omega arith)
+greater_step before place b bs false e h = rw e (omega arith, omega arith)
+
+greater_moves : (before place : ℕ) (text : List ℕ) → before < place → MovesOn before (place + length text) (greater_at place text)
+unfolding greater_at
+greater_moves before place [] h = (h, omega arith)
+greater_moves before place (b ∷ bs) h = greater_step before place b bs (eqb b 62) refl h
+
+bracket_step : (before place end b : ℕ) (square opening closing : Bool) → (eqb b 91 || eqb b 93) ≡ square → eqb b 123 ≡ opening → eqb b 125 ≡ closing →
+    before < place → place ≤ end → MovesOn before end (bracket place b)
+unfolding bracket
+bracket_step before place end b true opening closing s o c h k = rw s (h, k)
+bracket_step before place end b false true closing s o c h k = rw (s, o) (h, k)
+bracket_step before place end b false false true s o c h k = rw (s, o, c) (h, k)
+bracket_step before place end b false false false s o c h k = rw (s, o, c) (h, k)
+
+special_step : (before place b : ℕ) (bs : List ℕ) (slash parenthesis less greater : Bool) → eqb b 47 ≡ slash → eqb b 40 ≡ parenthesis → eqb b 60 ≡ less → eqb b 62 ≡ greater →
+    before < place → MovesOn before (place + length bs) (special_at place b bs)
+unfolding special_at
+special_step before place b bs true parenthesis less greater s p l g h = rw s (slash_moves before place bs h)
+special_step before place b bs false true less greater s p l g h = rw (s, p) (string_moves before place bs h)
+special_step before place b bs false false true greater s p l g h = rw (s, p, l) (less_moves before place bs h)
+special_step before place b bs false false false true s p l g h = rw (s, p, l, g) (greater_moves before place bs h)
+special_step before place b bs false false false false s p l g h =
+    rw (s, p, l, g) (bracket_step before place (place + length bs) b (eqb b 91 || eqb b 93) (eqb b 123) (eqb b 125) refl refl refl h (omega arith))
+
+from_step : (place b : ℕ) (bs : List ℕ) (delimiter : Bool) → is_delimiter b ≡ delimiter → MovesOn place (place + length (b ∷ bs)) (token_from place (b ∷ bs))
 unfolding token_from
-from_step place b bs true true d e = rw (d, e) (omega arith, omega arith)
-from_step place b bs true false d e = rw (d, e) (omega arith, omega arith)
-from_step place b bs false brace d e = rw d (row_moves place (b ∷ bs) (row_is_longer b bs d))
+from_step place b bs true d =
+    let whole : place + 1 + length bs ≡ place + length (b ∷ bs) = omega arith in
+    rw d (subst (λ (end : ℕ). MovesOn place end (special_at (place + 1) b bs)) whole
+    (special_step place (place + 1) b bs (eqb b 47) (eqb b 40) (eqb b 60) (eqb b 62) refl refl refl refl (omega arith)))
+from_step place b bs false d = rw d (row_moves place (b ∷ bs) (row_is_longer b bs d))
 
 from_moves : (place : ℕ) (text : List ℕ) → MovesOn place (place + length text) (token_from place text)
 unfolding token_from
 from_moves place [] = tt
-from_moves place (b ∷ bs) = from_step place b bs (is_delimiter b) (eqb b 125) refl refl
+from_moves place (b ∷ bs) = from_step place b bs (is_delimiter b) refl
 
 moves_sooner : (scan : Scan) (place start end : ℕ) → place ≤ start → MovesOn start end scan → MovesOn place end scan
 moves_sooner (scans.Token t n) place start end h m = (omega arith, m.1)
@@ -114,39 +246,84 @@ row_is_plain text plain = (and_parts _ _ (sym (plain_row text) ∙ plain)).0
 after_row_is_plain : (text : List ℕ) → is_plain text ≡ true → is_plain (drop (position_or_len is_delimiter text) text) ≡ true
 after_row_is_plain text plain = (and_parts (is_plain_row (before_first is_delimiter text)) _ (sym (plain_row text) ∙ plain)).1
 
+scan_leaves : (text : List ℕ) (found : Result Token ErrorName) (next : ℕ) → is_plain (drop next text) ≡ true → LeavesPlain text (scan_of found next)
+scan_leaves text (Ok token) next plain = plain
+scan_leaves text (Err error) next plain = plain
+
 row_leaves : (text : List ℕ) (place : ℕ) (front : List ℕ) → drop place text ≡ front → is_plain front ≡ true → LeavesPlain text (row_at place front)
-unfolding row_at
+unfolding row_at after_row
 row_leaves text place front is_front plain =
     let n = length (before_first is_delimiter front) in
     let behind : is_plain (drop n front) ≡ true = ap (λ (k : ℕ). is_plain (drop k front)) (length-row front) ∙ after_row_is_plain front plain in
     let place_is : drop (place + n + closing (drop n front)) text ≡ drop (closing (drop n front)) (drop n front) =
     sym (drop-drop (closing (drop n front)) (place + n) text) ∙ ap (drop (closing (drop n front))) (sym (drop-drop n place text) ∙ ap (drop n) is_front) in
-    ap is_plain place_is ∙ closing_plain (drop n front) behind
+    scan_leaves text (row_token (before_first is_delimiter front)) (place + n + closing (drop n front)) (ap is_plain place_is ∙ closing_plain (drop n front) behind)
 
-byte_leaves : (text : List ℕ) (place b : ℕ) (bs : List ℕ) → is_delimiter b ≡ true → drop place text ≡ b ∷ bs → is_plain (b ∷ bs) ≡ true → blanks false (b ∷ bs) ≡ 0 →
-    is_plain (drop (place + 1) text) ≡ true
-byte_leaves text place b bs d is_front plain no_blank =
+row_scan_plain : (row : List ℕ) (next : ℕ) (short integer decimal radix : Bool) (value : Option ℤ) → nat_le (length row) 127 ≡ short → is_integer row ≡ integer →
+    is_decimal row ≡ decimal → is_radix row ≡ radix → integer_value row ≡ value → short ≡ true → cond integer (is_some value) (not (decimal || radix)) ≡ true →
+    IsPlainScan (scan_of (row_token row) next)
+unfolding row_token
+row_scan_plain row next true true decimal radix (Some z) s i d r v fits plain = rw (i, v) tt
+row_scan_plain row next true true decimal radix None s i d r v fits plain = cc
+row_scan_plain row next true false true radix value s i d r v fits plain = cc
+row_scan_plain row next true false false true value s i d r v fits plain = cc
+row_scan_plain row next true false false false value s i d r v fits plain = rw (i, d, r, s) tt
+row_scan_plain row next false integer decimal radix value s i d r v fits plain = cc
+
+row_parts : (row : List ℕ) → is_plain_row row ≡ true →
+    (nat_le (length row) 127 ≡ true) × (cond (is_integer row) (is_some (integer_value row)) (not (is_decimal row || is_radix row)) ≡ true)
+unfolding is_plain_row
+row_parts row plain = let parts = and_parts _ _ plain in ((and_parts _ _ parts.0).1, parts.1)
+
+row_plain : (place : ℕ) (front : List ℕ) → is_plain front ≡ true → IsPlainScan (row_at place front)
+unfolding row_at
+row_plain place front plain =
+    let row = before_first is_delimiter front in
+    let parts = row_parts row (row_is_plain front plain) in
+    row_scan_plain row (after_row place front) (nat_le (length row) 127) (is_integer row) (is_decimal row) (is_radix row) (integer_value row) refl refl refl refl refl parts.0 parts.1
+
+-- of the special characters a plain one is a bracket alone
+special_is_bracket : (place b : ℕ) (bs : List ℕ) → is_plain_byte b ≡ true → special_at place b bs ≡ bracket place b
+unfolding special_at
+special_is_bracket place b bs plain =
+    let slash : eqb b 47 ≡ false = grind (arith, nat_tests) in
+    let parenthesis : eqb b 40 ≡ false = grind (arith, nat_tests) in
+    let less : eqb b 60 ≡ false = grind (arith, nat_tests) in
+    let greater : eqb b 62 ≡ false = grind (arith, nat_tests) in
+    rw (slash, parenthesis, less, greater) refl
+
+bracket_plain : (text : List ℕ) (place b : ℕ) (brace : Bool) → eqb b 125 ≡ brace → is_plain_byte b ≡ true → is_plain (drop place text) ≡ true → PlainScan text (bracket place b)
+unfolding bracket
+bracket_plain text place b true e plain behind =
+    let square : (eqb b 91 || eqb b 93) ≡ false = grind (arith, nat_tests) in
+    let opening : eqb b 123 ≡ false = grind (arith, nat_tests) in
+    rw (square, opening, e) (tt, behind)
+bracket_plain text place b false e plain behind =
+    let square : (eqb b 91 || eqb b 93) ≡ false = grind (arith, nat_tests) in
+    let opening : eqb b 123 ≡ false = grind (arith, nat_tests) in
+    rw (square, opening, e) (refl, behind)
+
+byte_parts : (b : ℕ) (bs : List ℕ) → is_delimiter b ≡ true → is_plain (b ∷ bs) ≡ true → blanks false (b ∷ bs) ≡ 0 → (is_plain_byte b ≡ true) × (is_plain bs ≡ true)
+byte_parts b bs d plain no_blank =
     let no_row : position_or_len is_delimiter (b ∷ bs) ≡ 0 = rw d refl in
-    ap is_plain (sym (drop-drop 1 place text) ∙ ap (drop 1) is_front) ∙ (and_parts (is_plain_byte b) (is_plain bs) (sym (plain_special b bs no_row no_blank) ∙ plain)).1
+    and_parts (is_plain_byte b) (is_plain bs) (sym (plain_special b bs no_row no_blank) ∙ plain)
 
-leaves_step : (text : List ℕ) (place b : ℕ) (bs : List ℕ) (delimiter brace : Bool) → is_delimiter b ≡ delimiter → eqb b 125 ≡ brace →
-    drop place text ≡ b ∷ bs → is_plain (b ∷ bs) ≡ true → blanks false (b ∷ bs) ≡ 0 → LeavesPlain text (token_from place (b ∷ bs))
+plain_step : (text : List ℕ) (place b : ℕ) (bs : List ℕ) (delimiter : Bool) → is_delimiter b ≡ delimiter →
+    drop place text ≡ b ∷ bs → is_plain (b ∷ bs) ≡ true → blanks false (b ∷ bs) ≡ 0 → PlainScan text (token_from place (b ∷ bs))
 unfolding token_from
-leaves_step text place b bs true true d e is_front plain no_blank = rw (d, e) (byte_leaves text place b bs d is_front plain no_blank)
-leaves_step text place b bs true false d e is_front plain no_blank = rw (d, e) (byte_leaves text place b bs d is_front plain no_blank)
-leaves_step text place b bs false brace d e is_front plain no_blank = rw d (row_leaves text place (b ∷ bs) is_front plain)
+plain_step text place b bs true d is_front plain no_blank =
+    let parts = byte_parts b bs d plain no_blank in
+    let behind : is_plain (drop (place + 1) text) ≡ true = ap is_plain (sym (drop-drop 1 place text) ∙ ap (drop 1) is_front) ∙ parts.1 in
+    rw (d, special_is_bracket (place + 1) b bs parts.0) (bracket_plain text (place + 1) b (eqb b 125) refl parts.0 behind)
+plain_step text place b bs false d is_front plain no_blank = rw d (row_plain place (b ∷ bs) plain, row_leaves text place (b ∷ bs) is_front plain)
 
-from_leaves : (text : List ℕ) (place : ℕ) (front : List ℕ) → drop place text ≡ front → is_plain front ≡ true → blanks false front ≡ 0 → LeavesPlain text (token_from place front)
+from_plain : (text : List ℕ) (place : ℕ) (front : List ℕ) → drop place text ≡ front → is_plain front ≡ true → blanks false front ≡ 0 → PlainScan text (token_from place front)
 unfolding token_from
-from_leaves text place [] is_front plain no_blank = tt
-from_leaves text place (b ∷ bs) is_front plain no_blank = leaves_step text place b bs (is_delimiter b) (eqb b 125) refl refl is_front plain no_blank
+from_plain text place [] is_front plain no_blank = (tt, tt)
+from_plain text place (b ∷ bs) is_front plain no_blank = plain_step text place b bs (is_delimiter b) refl is_front plain no_blank
 
-pub front_is_plain : (rest : List ℕ) → is_plain rest ≡ true → is_plain (drop (blanks false rest) rest) ≡ true
-front_is_plain rest plain = plain_blanks rest ∙ plain
-
-pub at_leaves_plain : (text : List ℕ) (place : ℕ) → is_plain (drop place text) ≡ true → LeavesPlain text (token_at text place)
+pub at_plain : (text : List ℕ) (place : ℕ) → is_plain (drop place text) ≡ true → PlainScan text (token_at text place)
 unfolding token_at
-at_leaves_plain text place plain =
+at_plain text place plain =
     let rest = drop place text in
-    from_leaves text (place + blanks false rest) (drop (blanks false rest) rest) (sym (drop-drop (blanks false rest) place text)) (front_is_plain rest plain)
-    (no_blank_after false rest)
+    from_plain text (place + blanks false rest) (drop (blanks false rest) rest) (sym (drop-drop (blanks false rest) place text)) (plain_blanks rest ∙ plain) (no_blank_after false rest)

@@ -1,4 +1,7 @@
 pub mod Characters
 pub mod Numbers
+pub mod Significands
+pub mod Strings
+pub mod Limited
 pub mod Token
 pub mod Simple

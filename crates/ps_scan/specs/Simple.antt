@@ -1,8 +1,11 @@
 -- Texts of integers and names alone.
 use Rattle.std.specs.Prelude.{◌≡◌, ℕ, Bool, true, false, not, ◌&&◌, ◌||◌, ◌==◌, nat_eq, nat_le, is_some, List, [], ◌∷◌, length, drop, codes, if◌then◌else◌}
 use Rattle.std.specs.List.{list_all, list_any, slice_split, starts_with}
+use Rattle.ps_objects.specs.declared.error_name.ErrorName.TheVariants.{SyntaxError}
 use Rattle.ps_scan.specs.Characters.{is_line_end, is_special, is_delimiter}
 use Rattle.ps_scan.specs.Numbers.{is_integer, integer_value, is_decimal, is_radix}
+use Rattle.ps_scan.specs.declared.tokens.Token.{Token}
+use Rattle.ps_scan.specs.declared.tokens.Token.TheVariants as token
 use Rattle.ps_scan.specs.declared.tokens.Scan.{Scan}
 use Rattle.ps_scan.specs.declared.tokens.Scan.TheVariants as scan
 
@@ -33,8 +36,25 @@ is_plain text =
 unfoldable pub is_simple : List ℕ → Bool
 is_simple text = not (starts_with nat_eq text (codes "%!PS-Adobe-")) && is_plain text
 
+-- an integer, an executable name or }
+abbrev pub IsPlainToken : Token → Type 0
+IsPlainToken (token.Integer z) = Unit {0}
+IsPlainToken (token.Exec name) = Unit {0}
+IsPlainToken token.BodyEnd = Unit {0}
+IsPlainToken _ = ⊥
+
+-- such a token, the end or a syntax error
+abbrev pub IsPlainScan : Scan → Type 0
+IsPlainScan (scan.Token found next) = IsPlainToken found
+IsPlainScan (scan.Bad error next) = error ≡ SyntaxError
+IsPlainScan scan.End = Unit {0}
+
 -- what follows the token or the error is plain
 abbrev pub LeavesPlain : List ℕ → Scan → Type 0
 LeavesPlain text (scan.Token _ next) = is_plain (drop next text) ≡ true
 LeavesPlain text (scan.Bad _ next) = is_plain (drop next text) ≡ true
 LeavesPlain text scan.End = Unit {0}
+
+-- a scan of a plain text
+abbrev pub PlainScan : List ℕ → Scan → Type 0
+PlainScan text scan = IsPlainScan scan × LeavesPlain text scan

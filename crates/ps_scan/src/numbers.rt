@@ -3,10 +3,10 @@ ghost use Rattle.std.specs.Prelude.{◌≡◌, ℕ, ◌+◌, ◌≤◌, ◌^◌,
 ghost use Rattle.std.specs.List.{list_all, position_or_len};
 ghost use Rattle.std.specs.Char.{is_ascii_digit, digit_value};
 ghost use Rattle.std.specs.Str.Parse.{digits_value};
-ghost use Rattle.ps_scan.specs.Numbers.{is_negative, unsigned, is_digits, is_integer, in_32_bits, integer_value, is_exponent_mark, is_mantissa, is_exponent, is_decimal, is_base, are_radix_digits, is_radix};
+ghost use Rattle.ps_scan.specs.Numbers.{is_negative, unsigned, is_digits, is_integer, in_32_bits, integer_value, is_exponent_mark, is_mantissa, is_exponent, is_decimal, is_base, are_radix_digits, is_radix, radix_value};
 
 /// A row without its sign.
-fn unsigned(row: &[u8]) -> &[u8]
+pub(crate) fn unsigned(row: &[u8]) -> &[u8]
     ensures { result.now ≡ unsigned row.now }
 {
     match row {
@@ -15,7 +15,7 @@ fn unsigned(row: &[u8]) -> &[u8]
     }
 }
 
-fn is_negative(row: &[u8]) -> bool
+pub(crate) fn is_negative(row: &[u8]) -> bool
     ensures { result ≡ is_negative row.now }
 {
     matches!(row, [b'-', ..])
@@ -42,7 +42,7 @@ pub(crate) fn is_integer(row: &[u8]) -> bool
 }
 
 /// The value of a digit or a letter of either case, 36 for any other byte.
-fn digit_value(byte: u8) -> u64
+pub(crate) fn digit_value(byte: u8) -> u64
     ensures { result ≡ digit_value byte }
 {
     match byte {
@@ -54,31 +54,28 @@ fn digit_value(byte: u8) -> u64
 }
 
 /// No number is taken for more than this.
-const MOST: u64 = 1 << 32;
+pub(crate) const MOST: u64 = u64::MAX;
 
 /// What the digits give in a base, or `MOST` where that is more.
 #[tactic(auto, using(crate::proofs::NumberLemmas::capped_digit))]
-fn digits_value(base: u64, digits: &[u8]) -> u64
+pub(crate) fn digits_value(base: u64, digits: &[u8]) -> u64
     requires low { 1 ≤ base }
     requires high { base ≤ 36 }
     ensures { result ≡ min (digits_value base digits.now) MOST }
 {
     let mut value = 0;
     for digit in digits {
-        value = (value * base + digit_value(*digit)).min(MOST);
+        let more = u128::from(value) * u128::from(base) + u128::from(digit_value(*digit));
+        value = more.min(u128::from(MOST)) as u64;
     }
     value
 }
 
 fn in_32_bits(negative: bool, magnitude: u64) -> Option<i32>
-    requires { magnitude ≤ MOST }
     ensures { result ≡ in_32_bits negative magnitude }
 {
-    if negative {
-        i32::try_from(-(magnitude as i64)).ok()
-    } else {
-        i32::try_from(magnitude as i64).ok()
-    }
+    let magnitude = i128::from(magnitude);
+    i32::try_from(if negative { -magnitude } else { magnitude }).ok()
 }
 
 /// The value of an integer within 32 signed bits.
@@ -96,7 +93,7 @@ fn is_exponent_mark(byte: u8) -> bool
 }
 
 /// Where the first `e` or `E` stands, or the end.
-fn exponent_place(bytes: &[u8]) -> usize
+pub(crate) fn exponent_place(bytes: &[u8]) -> usize
     ensures place { result ≡ position_or_len is_exponent_mark bytes.now }
     ensures within { result ≤ length bytes.now }
 {
@@ -109,7 +106,7 @@ fn exponent_place(bytes: &[u8]) -> usize
 }
 
 /// Where the byte stands first, or the end.
-fn place_of(bytes: &[u8], wanted: u8) -> usize
+pub(crate) fn place_of(bytes: &[u8], wanted: u8) -> usize
     ensures place { result ≡ position_or_len (λ b. b == wanted) bytes.now }
     ensures within { result ≤ length bytes.now }
 {
@@ -122,7 +119,7 @@ fn place_of(bytes: &[u8], wanted: u8) -> usize
 }
 
 /// What stands behind a place.
-fn after(bytes: &[u8], place: usize) -> &[u8]
+pub(crate) fn after(bytes: &[u8], place: usize) -> &[u8]
     requires { place ≤ length bytes.now }
     ensures { result.now ≡ drop (place + 1) bytes.now }
 {
@@ -190,4 +187,22 @@ pub(crate) fn is_radix(row: &[u8]) -> bool
     let hash = place_of(row, b'#');
     let base = &row[..hash];
     is_base(base) && are_radix_digits(digits_value(10, base), after(row, hash))
+}
+
+/// The value of a radix number, less 2^32 from 2^31 on, where it is below 2^32.
+#[tactic(auto, unfolding(crate::specs::Numbers::radix_value, crate::specs::Numbers::is_radix))]
+pub(crate) fn radix_value(row: &[u8]) -> Option<i32>
+    requires { is_radix row.now ≡ true }
+    ensures { result ≡ radix_value row.now }
+{
+    let hash = place_of(row, b'#');
+    let (base, _) = row.split_at(hash);
+    let value = digits_value(digits_value(10, base), after(row, hash));
+    if value < 1 << 31 {
+        Some(value as i32)
+    } else if value < 1 << 32 {
+        Some((value as i64 - (1 << 32)) as i32)
+    } else {
+        None
+    }
 }

@@ -5,15 +5,13 @@ ghost use Rattle.ps_scan.specs.Simple.{is_plain_byte, is_plain_row, is_plain, is
 
 use crate::characters::{is_special, skip_blanks, split_row};
 use crate::numbers::{integer_value, is_decimal, is_integer, is_radix};
+use crate::rows::NAME_LIMIT;
 
 /// How a text with document structure begins.
 const HEADER: &[u8] = b"%!PS-Adobe-";
 
 /// The byte that ends a job.
 const END_OF_JOB: u8 = 4;
-
-/// The bytes of a name, at most.
-const NAME_LIMIT: usize = 127;
 
 fn has_end_of_job(row: &[u8]) -> bool
     ensures { result ≡ list_any (λ b. b == 4) row.now }

@@ -1,21 +1,31 @@
 //! Tokens.
-ghost use Rattle.std.specs.Prelude.{◌≡◌, ◌+◌, ◌<◌, ◌≤◌, ◌^◌, length, drop, IfOk, true};
-ghost use Rattle.std.specs.List.{before_first};
-ghost use Rattle.ps_scan.specs.Characters.{is_delimiter};
-ghost use Rattle.ps_scan.specs.Token.{row_token, row_at, token_from, token_at, MovesOn};
-ghost use Rattle.ps_scan.specs.Simple.{is_plain_row, is_plain, LeavesPlain};
+ghost use Rattle.std.specs.Prelude.{◌≡◌, ◌+◌, ◌<◌, ◌≤◌, ◌^◌, ℤ, pos, neg_ℤ, ◌≤ℤ◌, ◌<ℤ◌, List, ◌∷◌, ◌++◌, ℕ, length, drop, IfOk, true};
+ghost use Rattle.std.specs.Fmt.{signed_decimal};
+ghost use Rattle.ps_scan.specs.Characters.{is_white, closing};
+ghost use Rattle.ps_scan.specs.Token.{MovesOn, token_from, token_at};
+ghost use Rattle.ps_scan.specs.Simple.{is_plain, PlainScan};
 
-use crate::characters::{blank_length, closing_length, is_delimiter, split_row};
-use crate::numbers::{integer_value, is_integer};
-use ps_objects::{ErrorName, Name, NoMemory};
+use crate::characters::{blank_length, is_delimiter};
+use crate::rows::row_at;
+use crate::specials::special_at;
+use ps_objects::{ErrorName, Name, NoMemory, Real, Text};
 use std::alloc::Global;
 
 /// A token of the language (section 3.2 of the language manual).
 #[derive(Drop)]
 pub enum Token {
     Integer(i32),
+    Real(Real),
+    /// A name behind `/`.
+    Literal(Name),
     /// An executable name.
     Exec(Name),
+    /// A name behind `//`.
+    Now(Name),
+    /// A string, in parentheses or hexadecimal.
+    Str(Text),
+    /// `{`
+    BodyBegin,
     /// `}`
     BodyEnd,
 }
@@ -29,59 +39,25 @@ pub enum Scan {
     Bad { error: ErrorName, next: u64 },
 }
 
-/// The token of a row of regular characters.
-#[tactic(auto, unfolding(crate::specs::Token::row_token, crate::specs::Simple::is_plain_row))]
-fn row_token(alloc: Global, row: &[u8]) -> Result<Token, NoMemory>
-    requires { is_plain_row row.now ≡ true }
-    ensures { IfOk result (λ token. token ≡ row_token row.now) }
-{
-    if is_integer(row) {
-        Ok(Token::Integer(integer_value(row).unwrap()))
-    } else {
-        Ok(Token::Exec(Name::from_bytes(alloc, row)?))
-    }
-}
-
-/// The number or the name at the front of a text that begins at the place.
-#[tactic(auto, unfolding(crate::specs::Token::row_at))]
-fn row_at(alloc: Global, place: u64, text: &[u8]) -> Result<Scan, NoMemory>
-    requires fits { place + length text.now < 2 ^ 63 }
-    requires plain { is_plain_row (before_first is_delimiter text.now) ≡ true }
-    ensures { IfOk result (λ scan. scan ≡ row_at place text.now) }
-{
-    let (row, after) = split_row(text);
-    let token = row_token(alloc, row)?;
-    let next = place + row.len() as u64 + closing_length(after) as u64;
-    Ok(Scan::Token { token, next })
-}
-
 /// The token at the front of a text that begins at the place.
 #[tactic(auto, unfolding(crate::specs::Token::token_from))]
 fn token_from(alloc: Global, place: u64, text: &[u8]) -> Result<Scan, NoMemory>
-    requires fits { place + length text.now < 2 ^ 63 }
-    requires plain { is_plain_row (before_first is_delimiter text.now) ≡ true }
+    requires { place + length text.now < 2 ^ 63 }
     ensures { IfOk result (λ scan. scan ≡ token_from place text.now) }
 {
-    let Some(first) = text.first() else {
+    let Some((first, rest)) = text.split_first() else {
         return Ok(Scan::End);
     };
-    if !is_delimiter(*first) {
-        return row_at(alloc, place, text);
-    }
-    let next = place + 1;
-    if *first == b'}' {
-        let token = Token::BodyEnd;
-        Ok(Scan::Token { token, next })
+    if is_delimiter(*first) {
+        special_at(alloc, place + 1, *first, rest)
     } else {
-        let error = ErrorName::SyntaxError;
-        Ok(Scan::Bad { error, next })
+        row_at(alloc, place, text)
     }
 }
 
 #[tactic(auto, unfolding(crate::specs::Token::token_at))]
 fn token_at(alloc: Global, text: &[u8], place: usize) -> Result<Scan, NoMemory>
-    requires place { place ≤ length text.now }
-    requires plain { is_plain (drop place text.now) ≡ true }
+    requires { place ≤ length text.now }
     ensures { IfOk result (λ scan. scan ≡ token_at text.now place) }
 {
     let (_, rest) = text.split_at(place);
@@ -91,11 +67,23 @@ fn token_at(alloc: Global, text: &[u8], place: usize) -> Result<Scan, NoMemory>
 
 /// Reads the token that stands behind the white space and comments at a place.
 pub fn next(alloc: Global, text: &[u8], pos: u64) -> Result<Scan, NoMemory>
-    requires place { pos ≤ length text.now }
-    requires plain { is_plain (drop pos text.now) ≡ true }
+    requires { pos ≤ length text.now }
     ensures token { IfOk result (λ scan. scan ≡ token_at text.now pos) }
     ensures moves { IfOk result (λ scan. MovesOn pos (length text.now) scan) }
-    ensures rest { IfOk result (λ scan. LeavesPlain text.now scan) }
+    ensures plain { IfOk result (λ scan. is_plain (drop pos text.now) ≡ true → PlainScan text.now scan) }
 {
     token_at(alloc, text, pos as usize)
 }
+
+/// In a plain text there are plain tokens alone, and what follows each is plain.
+pub fn simple_scans()
+    ensures { (text : List ℕ) (place : ℕ) → is_plain (drop place text) ≡ true →
+        PlainScan text (token_at text place) }
+{}
+
+/// A printed integer followed by white space is scanned back, and the white space that ends it is taken.
+pub fn printed_integers_scan()
+    ensures { (z : ℤ) (white place : ℕ) (text rest : List ℕ) → neg_ℤ (pos (2 ^ 31)) ≤ℤ z → z <ℤ pos (2 ^ 31) → is_white white ≡ true →
+        drop place text ≡ signed_decimal z ++ (white ∷ rest) →
+        token_at text place ≡ Scan.Token (Token.Integer z) (place + length (signed_decimal z) + closing (white ∷ rest)) }
+{}

@@ -69,11 +69,13 @@ step_of_name name (Some op) stack told = let outcome = effect_of op stack in aft
 abbrev pub step_of_number : ℤ → List ℤ → Step
 step_of_number n stack = if is_full stack then ends (ending.Stopped StackOverflow (Some (signed_decimal n))) stack else goes_on (n ∷ stack)
 
--- what a token does to a stack, where so many bytes of messages are told
+-- what a token does to a stack, where so many bytes of messages are told; tokens of other kinds don't stand in a
+-- plain text, and leave the stack as it is
 abbrev pub step_of : Token → List ℤ → ℕ → Step
 step_of (token.Integer n) stack told = step_of_number n stack
 step_of (token.Exec name) stack told = step_of_name name (operator_named name) stack told
 step_of token.BodyEnd stack told = ends (ending.Stopped SyntaxError None) stack
+step_of _ stack told = goes_on stack
 
 abbrev pub says : List ℕ → Run → Run
 says text run = record run { said = text ++ run.said }

@@ -1,6 +1,6 @@
 //! The run of a section of whole numbers.
 ghost use Rattle.std.specs.Prelude.{◌≡◌, [], ◌++◌, length, IfOk, if◌then◌else◌, true};
-ghost use Rattle.ps_scan.specs.Simple.{is_plain};
+ghost use Rattle.ps_scan.specs.Simple.{is_plain, IsPlainToken};
 ghost use Rattle.rip_run.specs.Section.{has_room, number_line, run_of, step_of, step_of_name, step_of_number, Steps};
 ghost use Rattle.rip_run.specs.Operators.{operator_named};
 ghost use Rattle.rip_run.specs.declared.section.Ending.TheVariants.{Stopped};
@@ -65,19 +65,23 @@ pub(crate) fn interpret(alloc: Global, text: &[u8]) -> Result<Run, NoMemory>
     unreachable!()
 }
 
-/// Executes a token, and says how the section ends with it, if it does.
+/// Executes a token of a plain text, and says how the section ends with it, if it does.
 fn execute(
     alloc: Global,
     token: Token,
     stack: &mut Operands,
     said: &mut Text,
 ) -> Result<Option<Ending>, NoMemory>
+    requires { IsPlainToken token }
     ensures { IfOk result (λ ending. Steps (step_of token stack.old (length said.old)) ending stack.new said.old said.new) }
 {
     match token {
         Token::Integer(n) => push_number(alloc, n, stack),
         Token::Exec(name) => execute_name(alloc, name.as_slice(), stack, said),
         Token::BodyEnd => Ok(Some(stopped(ErrorName::SyntaxError, None))),
+        Token::Real(_) | Token::Literal(_) | Token::Now(_) | Token::Str(_) | Token::BodyBegin => {
+            unreachable!()
+        }
     }
 }
 
