@@ -120,15 +120,14 @@ fn answers_jobs(rt: HostRuntime) -> Result<(), NoMemory> {
 #[test]
 fn answers_words_and_faults(rt: HostRuntime) -> Result<(), NoMemory> {
     let alloc = rt.alloc();
-    for words in [
-        ["render"].as_slice(),
-        [].as_slice(),
-        ["plain", "plain"].as_slice(),
-    ] {
-        let call = call(alloc, words, b"1 =", &[1], &[])?;
-        assert_eq!(rt; call.status, Status::Usage);
-        assert_eq!(rt; call.back.bytes(), USAGE.as_bytes());
-    }
+    // Wrong words are refused before the source could fail.
+    let no_words = call(alloc, &[], b"1 =", &[1], &[])?;
+    assert_eq!(rt; no_words.status, Status::Usage);
+    assert_eq!(rt; no_words.back.bytes(), USAGE.as_bytes());
+    let unknown = call(alloc, &["render"], b"1 =", &[1], &[])?;
+    assert_eq!(rt; unknown.status, Status::Usage);
+    let too_many = call(alloc, &["plain", "plain"], b"1 =", &[1], &[])?;
+    assert_eq!(rt; too_many.status, Status::Usage);
 
     for number in [1, 2] {
         let unread = call(alloc, &["plain"], b"1 =", &[number], &[])?;
