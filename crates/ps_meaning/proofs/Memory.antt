@@ -17,7 +17,7 @@ use Rattle.ps_memory.specs.Memory.{is_global, newer, same_save, Content, diction
 use Rattle.ps_memory.specs.Ownership.{same_cell, same_spot}
 use Rattle.ps_memory.specs.Frame.{later}
 use Rattle.ps_memory.proofs.Order.{cell_is}
-use Rattle.ps_memory.proofs.Places.{spot_is, mapped, put_at, part_strings, part_rand, part_page, store_other, length_set, held_fresh, bytes_new, string_fresh, string_fresh_other, fresh_other, restored, string_kept as string_dropped}
+use Rattle.ps_memory.proofs.Places.{spot_is, mapped, put_at, part_strings, part_rand, part_page, store_other, length_set, held_fresh, bytes_new, string_fresh, string_fresh_other, fresh_other, restored, kept_at as string_dropped}
 use Rattle.ps_memory.proofs.Stored.{stored, no_shape}
 use Rattle.ps_memory.proofs.Frame.{save_is, kept_store, kept_fresh}
 use Rattle.ps_meaning.specs.Fits.{Shapes, FitsFound, FitsSpot, SharedFound, SharedSpot, IsLoc}

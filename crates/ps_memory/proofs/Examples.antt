@@ -1,15 +1,15 @@
 -- Small trails, told by computing, to see that the definitions mean what they should.
-use Rattle.std.proofs.Common.{◌≡◌, ℕ, pos, true, List, [], ◌∷◌, Some, None, refl}
+use Rattle.std.proofs.Common.{◌≡◌, [], ◌∷◌, Some, None, refl}
 use Rattle.ps_objects.specs.declared.cell.Cell.{Cell}
 use Rattle.ps_objects.specs.declared.cell.SaveName.{SaveName}
-use Rattle.ps_objects.specs.declared.cell.Space.TheVariants.{Local, Global}
+use Rattle.ps_objects.specs.declared.cell.Space.TheVariants.{Local}
 use Rattle.ps_objects.specs.declared.key.Key.TheVariants as key
 use Rattle.ps_objects.specs.declared.place.Loc.{Loc}
 use Rattle.ps_objects.specs.declared.place.Loc.TheVariants as loc
 use Rattle.ps_objects.specs.declared.place.Value.{Value}
 use Rattle.ps_objects.specs.declared.place.Value.TheVariants as value
 use Rattle.ps_objects.specs.declared.place.Shape.TheVariants as shape
-use Rattle.ps_memory.specs.Memory.{Action, store, fresh, save, restore}
+use Rattle.ps_memory.specs.Memory.{store, fresh, save, restore}
 use Rattle.ps_memory.specs.Tree.{looked_at, did}
 use Rattle.ps_memory.specs.Ownership.{looked, outer}
 use Rattle.ps_memory.specs.Writes.{writes}

@@ -8,3 +8,4 @@ pub mod Replace
 pub mod Writes
 pub mod Track
 mod Examples
+pub mod Keeping

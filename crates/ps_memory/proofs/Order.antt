@@ -80,7 +80,7 @@ keys_antisymmetric (key.FontId a) (key.FontId b) e = ap key.FontId (cells_antisy
 keys_antisymmetric key.Mark key.Mark e = refl
 keys_antisymmetric _ _ e = cc
 
-is_equal : (r : Ordering) → is_eq r ≡ true → r ≡ Equal
+pub is_equal : (r : Ordering) → is_eq r ≡ true → r ≡ Equal
 is_equal Equal e = refl
 is_equal Less e = absurd (true≢false (sym e))
 is_equal Greater e = absurd (true≢false (sym e))

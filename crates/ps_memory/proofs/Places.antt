@@ -237,8 +237,8 @@ fresh_other c sh paper M e = ap page_found (part_page c (λ m. insert m c (conte
 
 -- ---- a restore
 
-pub string_kept : (s : SaveName) (d : Cell) (m : FinMap cell_cmp (List ℕ)) → get (retain_keys m (λ c. not (newer c s))) d ≡ cond (not (newer d s)) (get m d) None
-string_kept s d m = get-retain_keys m (λ c. not (newer c s)) d (λ x h. ap (λ c. not (newer c s)) (sym (cell_is d x (ap is_eq h))))
+pub kept_at : {X : Type 0} (s : SaveName) (d : Cell) (m : FinMap cell_cmp X) → get (retain_keys m (λ c. not (newer c s))) d ≡ cond (not (newer d s)) (get m d) None
+kept_at s d m = get-retain_keys m (λ c. not (newer c s)) d (λ x h. ap (λ c. not (newer c s)) (sym (cell_is d x (ap is_eq h))))
 
 -- the local part is the copy's; strings newer than the save are gone; all else stays
 pub restored : (s : SaveName) (copy : Cells) (M : Memory) (q : Spot) → at (put_back s (Some copy) M) q ≡ elim q as (λ _. Found) [
@@ -252,7 +252,7 @@ restored s copy M (held c t) = go (is_global c)
     go : (x : Bool) → in_content (get (cond x M.globals copy) c) t ≡ cond x (in_content (get (cond x M.globals M.locals) c) t) (in_content (get copy c) t)
     go true = refl
     go false = refl
-restored s copy M (byte c j) = ap (λ o. in_string o j) (string_kept s c M.strings) ∙ go (newer c s)
+restored s copy M (byte c j) = ap (λ o. in_string o j) (kept_at s c M.strings) ∙ go (newer c s)
   where
     go : (x : Bool) → in_string (cond (not x) (get M.strings c) None) j ≡ cond x (is value.Absent) (at M (byte c j))
     go true = refl

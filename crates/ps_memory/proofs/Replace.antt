@@ -27,15 +27,15 @@ use Rattle.ps_memory.proofs.Frame.{kept_store}
 -- ---- two changes of a map
 
 module _ {X : Type 0} where
-  mapped_swap : (f g : X → X) → ((x : X) → f (g x) ≡ g (f x)) → (o : Option X) → mapped f (mapped g o) ≡ mapped g (mapped f o)
+  pub mapped_swap : (f g : X → X) → ((x : X) → f (g x) ≡ g (f x)) → (o : Option X) → mapped f (mapped g o) ≡ mapped g (mapped f o)
   mapped_swap f g h None = refl
   mapped_swap f g h (Some x) = ap Some (h x)
 
-  put_put : (c d q : Cell) (f g : X → X) (m : FinMap cell_cmp X) → get (put_cell c f (put_cell d g m)) q
+  pub put_put : (c d q : Cell) (f g : X → X) (m : FinMap cell_cmp X) → get (put_cell c f (put_cell d g m)) q
       ≡ cond (same_cell q c) (mapped f (cond (same_cell q d) (mapped g (get m q)) (get m q))) (cond (same_cell q d) (mapped g (get m q)) (get m q))
   put_put c d q f g m = put_at c q f (put_cell d g m) ∙ ap (λ o. cond (same_cell q c) (mapped f o) o) (put_at d q g m)
 
-  put_swap : (c d : Cell) (f g : X → X) (m : FinMap cell_cmp X) → (same_cell c d ≡ true → (x : X) → f (g x) ≡ g (f x)) → put_cell c f (put_cell d g m) ≡ put_cell d g (put_cell c f m)
+  pub put_swap : (c d : Cell) (f g : X → X) (m : FinMap cell_cmp X) → (same_cell c d ≡ true → (x : X) → f (g x) ≡ g (f x)) → put_cell c f (put_cell d g m) ≡ put_cell d g (put_cell c f m)
   put_swap c d f g m h = same_map cells_total cells_antisymmetric (put_cell c f (put_cell d g m)) (put_cell d g (put_cell c f m)) (λ q. put_put c d q f g m ∙ go q (same_cell q c) (same_cell q d) refl refl (get m q) ∙ sym (put_put d c q g f m))
     where
       go : (q : Cell) (a b : Bool) → same_cell q c ≡ a → same_cell q d ≡ b → (o : Option X)
@@ -45,7 +45,7 @@ module _ {X : Type 0} where
       go q false true i j o = refl
       go q false false i j o = refl
 
-  put_over : (c : Cell) (f g : X → X) (m : FinMap cell_cmp X) → ((x : X) → f (g x) ≡ f x) → put_cell c f (put_cell c g m) ≡ put_cell c f m
+  pub put_over : (c : Cell) (f g : X → X) (m : FinMap cell_cmp X) → ((x : X) → f (g x) ≡ f x) → put_cell c f (put_cell c g m) ≡ put_cell c f m
   put_over c f g m h = same_map cells_total cells_antisymmetric (put_cell c f (put_cell c g m)) (put_cell c f m) (λ q. put_put c c q f g m ∙ go (same_cell q c) (get m q) ∙ sym (put_at c q f m))
     where
       go : (a : Bool) (o : Option X) → cond a (mapped f (cond a (mapped g o) o)) (cond a (mapped g o) o) ≡ cond a (mapped f o) o
@@ -53,7 +53,7 @@ module _ {X : Type 0} where
       go true (Some x) = ap Some (h x)
       go false o = refl
 
-  insert_swap : (c d : Cell) (x : X) (f : X → X) (m : FinMap cell_cmp X) → same_cell d c ≡ false → insert (put_cell d f m) c x ≡ put_cell d f (insert m c x)
+  pub insert_swap : (c d : Cell) (x : X) (f : X → X) (m : FinMap cell_cmp X) → same_cell d c ≡ false → insert (put_cell d f m) c x ≡ put_cell d f (insert m c x)
   insert_swap c d x f m h = same_map cells_total cells_antisymmetric (insert (put_cell d f m) c x) (put_cell d f (insert m c x)) (λ q.
       get-insert cells_total (put_cell d f m) c x q ∙ ap (cond (same_cell q c) (Some x)) (put_at d q f m) ∙ go q (same_cell q c) (same_cell q d) refl refl (get m q)
       ∙ ap (λ o. cond (same_cell q d) (mapped f o) o) (sym (get-insert cells_total m c x q)) ∙ sym (put_at d q f (insert m c x)))
@@ -65,7 +65,7 @@ module _ {X : Type 0} where
       go q false true i j o = refl
       go q false false i j o = refl
 
-  remove_swap : (c d : Cell) (f : X → X) (m : FinMap cell_cmp X) → remove (put_cell d f m) c ≡ put_cell d f (remove m c)
+  pub remove_swap : (c d : Cell) (f : X → X) (m : FinMap cell_cmp X) → remove (put_cell d f m) c ≡ put_cell d f (remove m c)
   remove_swap c d f m = same_map cells_total cells_antisymmetric (remove (put_cell d f m) c) (put_cell d f (remove m c)) (λ q.
       get-remove cells_total (put_cell d f m) c q ∙ ap (cond (same_cell q c) None) (put_at d q f m) ∙ go (same_cell q c) (same_cell q d) (get m q)
       ∙ ap (λ o. cond (same_cell q d) (mapped f o) o) (sym (get-remove cells_total m c q)) ∙ sym (put_at d q f (remove m c)))
@@ -151,7 +151,7 @@ inert access v n = refl
 inert (item i) v n = refl
 inert whole v n = refl
 
-content_swap : (s t : Slot) (v w : Value) (x : Content) → same_slot s t ≡ false → put_content s v (put_content t w x) ≡ put_content t w (put_content s v x)
+pub content_swap : (s t : Slot) (v w : Value) (x : Content) → same_slot s t ≡ false → put_content s v (put_content t w x) ≡ put_content t w (put_content s v x)
 content_swap s t v w (characters n) h = ap (put_content s v) (inert t w n) ∙ inert s v n ∙ sym (ap (put_content t w) (inert s v n) ∙ inert t w n)
 content_swap (entry k) (entry j) v w (dictionary n a es) h = ap (dictionary n a) (entry_swap k j v w es h)
 content_swap (entry k) access v w (dictionary n a es) h = refl
@@ -186,7 +186,7 @@ content_swap whole access v w (items xs) h = refl
 content_swap whole (item j) v w (items xs) h = refl
 content_swap whole whole v w (items xs) h = absurd (true≢false h)
 
-content_over : (c : Cell) (t : Slot) (v w : Value) (x : Content) → is_kind (held c t) v ≡ true → put_content t v (put_content t w x) ≡ put_content t v x
+pub content_over : (c : Cell) (t : Slot) (v w : Value) (x : Content) → is_kind (held c t) v ≡ true → put_content t v (put_content t w x) ≡ put_content t v x
 content_over c (entry k) v w (dictionary n a es) h = ap (dictionary n a) (entry_over c k v w es h)
 content_over c access (value.Access b) w (dictionary n a es) h = refl
 content_over c (item i) (value.Object y) w (items xs) h = ap items (item_over i y w xs)

@@ -41,7 +41,7 @@ stored paper (value.Paper x) M p q = refl
 stored rand _ M p q = cc
 stored paper _ M p q = cc
 
-no_whole : (x : Option Content) → is_slot x whole ≡ false
+pub no_whole : (x : Option Content) → is_slot x whole ≡ false
 no_whole None = refl
 no_whole (Some (dictionary n a es)) = refl
 no_whole (Some (items xs)) = refl

@@ -2,7 +2,7 @@
 use Rattle.std.proofs.Common.{◌≡◌, ℕ, Bool, true, false, cond, not, ◌&&◌, List, [], ◌∷◌, Option, Some, None, refl, sym, ap, ◌∙◌, subst, true≢false, replicate}
 use Rattle.std.specs.Ordering.{is_gt, ordering_then, nat_cmp}
 use Rattle.std.specs.List.{AllByRecursion}
-use Rattle.std.specs.FinMap.{FinMap, get, insert, remove, retain_keys, get-insert, get-remove, same_map}
+use Rattle.std.specs.FinMap.{FinMap, get, insert, get-insert}
 use Rattle.ps_objects.specs.declared.cell.Cell.{Cell}
 use Rattle.ps_objects.specs.declared.cell.SaveName.{SaveName}
 use Rattle.ps_objects.specs.declared.place.Value.{Value}
@@ -13,61 +13,10 @@ use Rattle.ps_memory.specs.Memory.{is_global, newer, same_save, Content, diction
 use Rattle.ps_memory.specs.Ownership.{same_cell}
 use Rattle.ps_memory.specs.Frame.{IsUnused}
 use Rattle.ps_memory.specs.Writes.{apply, Applicable, outlives, undo}
-use Rattle.ps_memory.proofs.Order.{cells_total, cells_antisymmetric, cell_is}
-use Rattle.ps_memory.proofs.Places.{string_kept, put_other, put_at, mapped, string_fresh_other, restored}
+use Rattle.ps_memory.proofs.Order.{cells_total}
+use Rattle.ps_memory.proofs.Places.{kept_at, put_other, put_at, mapped, string_fresh_other, restored}
 use Rattle.ps_memory.proofs.Frame.{save_is, kept_store, kept_fresh}
-
-abbrev keep : SaveName → FinMap cell_cmp (List ℕ) → FinMap cell_cmp (List ℕ)
-keep s m = retain_keys m (λ c. not (newer c s))
-
-same_strings : (m n : FinMap cell_cmp (List ℕ)) → ((c : Cell) → get m c ≡ get n c) → m ≡ n
-same_strings m n h = same_map cells_total cells_antisymmetric m n h
-
--- nothing is dropped where nothing is newer
-keep_all : (s : SaveName) (m : FinMap cell_cmp (List ℕ)) → ((c : Cell) → newer c s ≡ true → get m c ≡ None) → keep s m ≡ m
-keep_all s m h = same_strings (keep s m) m (λ c. string_kept s c m ∙ go c (newer c s) refl)
-  where
-    go : (c : Cell) (x : Bool) → newer c s ≡ x → cond (not x) (get m c) None ≡ get m c
-    go c true e = sym (h c e)
-    go c false e = refl
-
--- a change at one cell
-keep_change : (s : SaveName) (c : Cell) (m n : FinMap cell_cmp (List ℕ)) → newer c s ≡ true → ((d : Cell) → same_cell d c ≡ false → get n d ≡ get m d) → keep s n ≡ keep s m
-keep_change s c m n h other = same_strings (keep s n) (keep s m) (λ d. string_kept s d n ∙ go d (same_cell d c) refl ∙ sym (string_kept s d m))
-  where
-    go : (d : Cell) (x : Bool) → same_cell d c ≡ x → cond (not (newer d s)) (get n d) None ≡ cond (not (newer d s)) (get m d) None
-    go d true e = let late = ap (λ c. newer c s) (cell_is d c e) ∙ h in ap (λ b. cond (not b) (get n d) None) late ∙ sym (ap (λ b. cond (not b) (get m d) None) late)
-    go d false e = ap (λ o. cond (not (newer d s)) o None) (other d e)
-
-keep_put : (s : SaveName) (c : Cell) (f : List ℕ → List ℕ) (m : FinMap cell_cmp (List ℕ)) → keep s (put_cell c f m) ≡ put_cell c f (keep s m)
-keep_put s c f m = same_strings (keep s (put_cell c f m)) (put_cell c f (keep s m)) (λ d.
-    string_kept s d (put_cell c f m) ∙ ap (λ o. cond (not (newer d s)) o None) (put_at c d f m) ∙ go (newer d s) (same_cell d c) (get m d)
-    ∙ ap (λ o. cond (same_cell d c) (mapped f o) o) (sym (string_kept s d m)) ∙ sym (put_at c d f (keep s m)))
-  where
-    go : (x y : Bool) (o : Option (List ℕ)) → cond (not x) (cond y (mapped f o) o) None ≡ cond y (mapped f (cond (not x) o None)) (cond (not x) o None)
-    go true true o = refl
-    go true false o = refl
-    go false y o = refl
-
-keep_insert : (s : SaveName) (c : Cell) (b : List ℕ) (m : FinMap cell_cmp (List ℕ)) → newer c s ≡ false → keep s (insert m c b) ≡ insert (keep s m) c b
-keep_insert s c b m h = same_strings (keep s (insert m c b)) (insert (keep s m) c b) (λ d.
-    string_kept s d (insert m c b) ∙ ap (λ o. cond (not (newer d s)) o None) (get-insert cells_total m c b d) ∙ go d (same_cell d c) refl
-    ∙ ap (cond (same_cell d c) (Some b)) (sym (string_kept s d m)) ∙ sym (get-insert cells_total (keep s m) c b d))
-  where
-    go : (d : Cell) (x : Bool) → same_cell d c ≡ x → cond (not (newer d s)) (cond x (Some b) (get m d)) None ≡ cond x (Some b) (cond (not (newer d s)) (get m d) None)
-    go d true e = ap (λ y. cond (not y) (Some b) None) (ap (λ c. newer c s) (cell_is d c e) ∙ h)
-    go d false e = refl
-
-keep_remove : (s : SaveName) (c : Cell) (m : FinMap cell_cmp (List ℕ)) → keep s (remove m c) ≡ remove (keep s m) c
-keep_remove s c m = same_strings (keep s (remove m c)) (remove (keep s m) c) (λ d.
-    string_kept s d (remove m c) ∙ ap (λ o. cond (not (newer d s)) o None) (get-remove cells_total m c d) ∙ go (newer d s) (same_cell d c) (get m d)
-    ∙ ap (cond (same_cell d c) None) (sym (string_kept s d m)) ∙ sym (get-remove cells_total (keep s m) c d))
-  where
-    go : (x y : Bool) (o : Option (List ℕ)) → cond (not x) (cond y None o) None ≡ cond y None (cond (not x) o None)
-    go true true o = refl
-    go true false o = refl
-    go false true o = refl
-    go false false o = refl
+use Rattle.ps_memory.proofs.Keeping.{keep, keep_all, keep_change, keep_put, keep_insert, keep_remove}
 
 keep_new : (s : SaveName) (c : Cell) (sh : Shape) (m : FinMap cell_cmp (List ℕ)) → newer c s ≡ false → keep s (new_bytes c sh m) ≡ new_bytes c sh (keep s m)
 keep_new s c (shape.Dict n) m h = keep_remove s c m
@@ -258,7 +207,7 @@ place_after s C M (held c t) e h = go (is_global c) e h
     go : (x : Bool) → x ≡ true → is_slot (get (cond x M.globals M.locals) c) t ≡ true → is_slot (get (cond x M.globals C) c) t ≡ true
     go true e h = h
     go false e h = absurd (true≢false (sym e))
-place_after s C M (byte c i) e h = ap (λ o. is_byte o i) (string_kept s c M.strings) ∙ go (newer c s) e
+place_after s C M (byte c i) e h = ap (λ o. is_byte o i) (kept_at s c M.strings) ∙ go (newer c s) e
   where
     go : (x : Bool) → not x ≡ true → is_byte (cond (not x) (get M.strings c) None) i ≡ true
     go true e = absurd (true≢false (sym e))
