@@ -1,0 +1,298 @@
+//! The local part of a memory.
+ghost use Rattle.std.specs.Prelude.{◌≡◌, Bool, true, false, [], ◌∷◌, Some, None, option_copied, reverse, MatchOption, IfOk, OnOk, OnErr};
+ghost use Rattle.std.specs.FinMap.{get, insert, remove, from_entries};
+ghost use Rattle.std.specs.List.{AllByRecursion};
+ghost use Rattle.ps_memory.specs.Order.{cell_cmp};
+ghost use Rattle.ps_memory.specs.Memory.{is_global, newer, is_slot, held, spot_of, put_content, put_cell};
+ghost use Rattle.ps_memory.specs.Frame.{later};
+ghost use Rattle.vm_content.specs.Content.{slot_in};
+ghost use Rattle.vm_content.specs.Back.{given_back};
+ghost use Rattle.vm_journal.specs.Journal.{copies, put_held, reverted, holder, is_rising};
+ghost use Rattle.vm_journal.specs.Part.{AreLocal, HaveCells, Closes, is_empty, kept_from};
+
+use crate::journal::OpenSave;
+use ps_objects::{Cell, Loc, NoMemory, SaveName, Shape, Space, Value};
+use std::alloc::Global;
+use std::collections::BTreeMap;
+use std::marker::Model;
+use vm_content::{Before, Bytes, Content, copy_map, forget_cell, give_cell_back, next_in};
+
+/// The local cells with the open saves, the oldest first.
+#[derive(Drop)]
+pub struct Locals {
+    alloc: Global,
+    cells: BTreeMap<Cell, Content>,
+    saves: Vec<OpenSave>,
+}
+
+impl Model for Locals {
+    ghost use Rattle.std.specs.Prelude.{◌≡◌, true, reverse};
+    ghost use Rattle.std.specs.FinMap.{from_entries};
+    ghost use Rattle.ps_memory.specs.Order.{cell_cmp};
+    ghost use Rattle.vm_journal.specs.Journal.{copies, is_rising};
+    ghost use Rattle.vm_journal.specs.Part.{Part, part_code, AreLocal};
+
+    ghost Value = { Part };
+
+    ghost coded = { part_code };
+
+    ghost view = { λ part. record { cells = from_entries {R = cell_cmp} part.cells.entries; kept = copies (reverse part.saves.items) (from_entries {R = cell_cmp} part.cells.entries) } };
+
+    ghost invariant = { λ part. AreLocal (from_entries {R = cell_cmp} part.cells.entries) × (is_rising (reverse part.saves.items) ≡ true) };
+}
+
+impl Locals {
+    /// The cells, with no save open.
+    pub fn new(alloc: Global, cells: BTreeMap<Cell, Content>) -> Locals
+        requires { AreLocal (from_entries {R = cell_cmp} cells.entries) }
+        ensures { result ≡ record { cells = from_entries {R = cell_cmp} cells.entries; kept = [] } }
+    {
+        Locals {
+            alloc,
+            cells,
+            saves: Vec::new(alloc),
+        }
+    }
+
+    #[tactic(auto, using(vm_content::proofs::Cells::cell_found))]
+    pub fn get(&self, cell: Cell) -> Option<&Content>
+        ensures { option_copied result ≡ get self.now.cells cell }
+    {
+        self.cells.get(&cell)
+    }
+
+    /// Puts a value at a place of a cell, once the newest save has noted what it holds.
+    #[tactic(auto, using(crate::proofs::Parting::local_put, crate::proofs::Parting::local_same, crate::proofs::Parting::part_put, crate::proofs::Parting::part_same))]
+    pub fn put(&mut self, cell: Cell, at: &Loc, value: Value) -> Result<(), NoMemory>
+        requires spot { spot_of at.now ≡ held cell (slot_in at.now) }
+        requires local { is_global cell ≡ false }
+        requires place { is_slot (get self.old.cells cell) (slot_in at.now) ≡ true }
+        ensures ok { OnOk result (self.new ≡ record { cells = put_cell cell (put_content (slot_in at.now) value) self.old.cells; kept = self.old.kept }) }
+        ensures err { OnErr result (self.new ≡ self.old) }
+    {
+        note(&mut self.saves, &self.cells, cell, at)?;
+        put_one(&mut self.cells, at, value)?;
+        Ok(())
+    }
+
+    /// Adds a cell that is newer than all open saves.
+    #[tactic(auto, using(vm_content::proofs::Cells::cell_inserted, crate::proofs::Parting::part_inserted, crate::proofs::Parting::local_insert))]
+    pub fn insert(&mut self, cell: Cell, content: Content) -> Result<(), NoMemory>
+        requires local { is_global cell ≡ false }
+        requires newest { AllByRecursion (λ k. newer cell k.0 ≡ true) self.old.kept }
+        ensures ok { OnOk result (self.new ≡ record { cells = insert self.old.cells cell content; kept = self.old.kept }) }
+        ensures err { OnErr result (self.new ≡ self.old) }
+    {
+        add_cell(&mut self.cells, cell, content)?;
+        Ok(())
+    }
+
+    /// Opens a save.
+    #[tactic(auto, using(crate::proofs::Parting::part_opened, crate::proofs::Parting::rising_opened))]
+    pub fn open(&mut self, name: SaveName) -> Result<(), NoMemory>
+        requires latest { AllByRecursion (λ k. later name k.0 ≡ true) self.old.kept }
+        requires newest { (c : Cell) → newer c name ≡ true → get self.old.cells c ≡ None }
+        ensures ok { OnOk result (self.new ≡ record { cells = self.old.cells; kept = (name, self.old.cells) ∷ self.old.kept }) }
+        ensures err { OnErr result (self.new ≡ self.old) }
+    {
+        let save = OpenSave::new(self.alloc, name);
+        add_save(&mut self.saves, save)?;
+        Ok(())
+    }
+
+    /// Closes the newest save, if one is open: gives the cells back as they were then, and takes the newer strings away.
+    #[tactic(auto, using(crate::proofs::Closing::fewer_left))]
+    pub fn close(
+        &mut self,
+        strings: &mut BTreeMap<Cell, Bytes>,
+    ) -> Result<Option<SaveName>, NoMemory>
+        requires { HaveCells (from_entries {R = cell_cmp} strings.old.entries) self.old.cells }
+        ensures closed { IfOk result (λ name. Closes name self.old self.new (from_entries {R = cell_cmp} strings.old.entries) (from_entries {R = cell_cmp} strings.new.entries)) }
+        ensures cells { HaveCells (from_entries {R = cell_cmp} strings.new.entries) self.new.cells }
+        ensures fewer { (c : Cell) → get (from_entries {R = cell_cmp} strings.old.entries) c ≡ None → get (from_entries {R = cell_cmp} strings.new.entries) c ≡ None }
+    {
+        let Some(save) = take_save(&mut self.saves) else {
+            return Ok(None);
+        };
+        let name = save.name();
+        drop_newer(&mut self.cells, strings, name);
+        put_back(&mut self.cells, save.into_notes())?;
+        Ok(Some(name))
+    }
+}
+
+// Changes that need no note, since no save is open.
+impl Locals {
+    /// Whether no save is open.
+    #[tactic(auto, using(crate::proofs::Unnoted::none_kept))]
+    pub fn has_no_save(&self) -> bool
+        ensures { is_empty self.now.kept ≡ result }
+    {
+        self.saves.is_empty()
+    }
+
+    /// Gives back what a write to a cell changed.
+    #[tactic(auto, using(crate::proofs::Unnoted::part_given, crate::proofs::Unnoted::local_given))]
+    pub fn give_back(&mut self, cell: Cell, before: Before)
+        requires { self.old.kept ≡ [] }
+        ensures { self.new ≡ record { cells = put_cell cell (given_back before) self.old.cells; kept = self.old.kept } }
+    {
+        give_cell_back(&mut self.cells, cell, before);
+    }
+
+    /// Takes a cell away.
+    #[tactic(auto, using(crate::proofs::Unnoted::part_forgotten, crate::proofs::Unnoted::local_forgotten))]
+    pub fn forget(&mut self, cell: Cell)
+        requires { self.old.kept ≡ [] }
+        ensures { self.new ≡ record { cells = remove self.old.cells cell; kept = self.old.kept } }
+    {
+        forget_cell(&mut self.cells, cell);
+    }
+}
+
+/// Has the newest save note what a place holds.
+#[tactic(auto, using(crate::proofs::Parting::newest_same, crate::proofs::Parting::newest_noted, crate::proofs::Parting::newest_rising))]
+fn note(
+    saves: &mut Vec<OpenSave>,
+    cells: &BTreeMap<Cell, Content>,
+    cell: Cell,
+    at: &Loc,
+) -> Result<(), NoMemory>
+    requires spot { spot_of at.now ≡ held cell (slot_in at.now) }
+    requires place { is_slot (get (from_entries {R = cell_cmp} cells.now.entries) cell) (slot_in at.now) ≡ true }
+    ensures rising { is_rising (reverse saves.new.items) ≡ is_rising (reverse saves.old.items) }
+    ensures same { copies (reverse saves.new.items) (from_entries {R = cell_cmp} cells.now.entries) ≡ copies (reverse saves.old.items) (from_entries {R = cell_cmp} cells.now.entries) }
+    ensures noted { OnOk result ((v : Value) → copies (reverse saves.new.items) (put_held (spot_of at.now) v (from_entries {R = cell_cmp} cells.now.entries)) ≡ copies (reverse saves.old.items) (from_entries {R = cell_cmp} cells.now.entries)) }
+{
+    match saves.last_mut() {
+        Some(save) => save.note(cells, cell, at),
+        None => Ok(()),
+    }
+}
+
+#[tactic(auto, using(vm_content::proofs::Cells::cell_inserted))]
+fn add_cell(
+    cells: &mut BTreeMap<Cell, Content>,
+    cell: Cell,
+    content: Content,
+) -> Result<(), NoMemory>
+    ensures ok { OnOk result (from_entries {R = cell_cmp} cells.new.entries ≡ insert (from_entries {R = cell_cmp} cells.old.entries) cell content) }
+    ensures err { OnErr result (from_entries {R = cell_cmp} cells.new.entries ≡ from_entries {R = cell_cmp} cells.old.entries) }
+{
+    cells.insert(cell, content)?;
+    Ok(())
+}
+
+#[tactic(auto, using(crate::proofs::Parting::pushed))]
+fn add_save(saves: &mut Vec<OpenSave>, save: OpenSave) -> Result<(), NoMemory>
+    ensures ok { OnOk result (reverse saves.new.items ≡ save ∷ reverse saves.old.items) }
+    ensures err { OnErr result (saves.new.items ≡ saves.old.items) }
+{
+    saves.push(save)?;
+    Ok(())
+}
+
+fn take_save(saves: &mut Vec<OpenSave>) -> Option<OpenSave>
+    ensures { MatchOption result ((reverse saves.old.items ≡ []) × (reverse saves.new.items ≡ [])) (λ save. reverse saves.old.items ≡ save ∷ reverse saves.new.items) }
+{
+    saves.pop()
+}
+
+/// Takes away the cells that are newer than a save, and their strings.
+#[tactic(auto, using(crate::proofs::Dropping::none_dropped, crate::proofs::Dropping::no_cell_left, crate::proofs::Dropping::no_string_left))]
+fn drop_newer(
+    cells: &mut BTreeMap<Cell, Content>,
+    strings: &mut BTreeMap<Cell, Bytes>,
+    save: SaveName,
+)
+    requires local { AreLocal (from_entries {R = cell_cmp} cells.old.entries) }
+    requires cells { HaveCells (from_entries {R = cell_cmp} strings.old.entries) (from_entries {R = cell_cmp} cells.old.entries) }
+    ensures cells { from_entries {R = cell_cmp} cells.new.entries ≡ kept_from save (from_entries {R = cell_cmp} cells.old.entries) }
+    ensures strings { from_entries {R = cell_cmp} strings.new.entries ≡ kept_from save (from_entries {R = cell_cmp} strings.old.entries) }
+{
+    while let Some((last, _)) = cells.last_key_value() {
+        if !last.is_newer_than(save) {
+            break;
+        }
+        let cell = *last;
+        cells.remove(&cell);
+        strings.remove(&cell);
+    }
+}
+
+/// Puts a value back at a place of a cell, if the cell stands.
+#[tactic(auto, using(vm_content::proofs::Cells::cell_written, vm_content::proofs::Cells::cell_missing, crate::proofs::Parting::written_back))]
+fn put_one(cells: &mut BTreeMap<Cell, Content>, at: &Loc, value: Value) -> Result<(), NoMemory>
+    ensures ok { OnOk result (from_entries {R = cell_cmp} cells.new.entries ≡ put_held (spot_of at.now) value (from_entries {R = cell_cmp} cells.old.entries)) }
+    ensures err { OnErr result (from_entries {R = cell_cmp} cells.new.entries ≡ from_entries {R = cell_cmp} cells.old.entries) }
+{
+    if let Some(cell) = holder(at) {
+        if let Some(content) = cells.get_mut(&cell) {
+            content.put(at, value)?;
+        }
+    }
+    Ok(())
+}
+
+/// Puts back what was noted.
+#[tactic(auto, using(crate::proofs::Reverting::nothing_reverted, crate::proofs::Reverting::one_reverted, crate::proofs::Reverting::all_reverted, crate::proofs::Reverting::still_there, crate::proofs::Reverting::still_gone))]
+fn put_back(
+    cells: &mut BTreeMap<Cell, Content>,
+    notes: BTreeMap<Loc, Value>,
+) -> Result<(), NoMemory>
+    ensures ok { OnOk result (from_entries {R = cell_cmp} cells.new.entries ≡ reverted notes.entries (from_entries {R = cell_cmp} cells.old.entries)) }
+    ensures there { (c : Cell) → get (from_entries {R = cell_cmp} cells.new.entries) c ≡ None → get (from_entries {R = cell_cmp} cells.old.entries) c ≡ None }
+    ensures gone { (c : Cell) → get (from_entries {R = cell_cmp} cells.old.entries) c ≡ None → get (from_entries {R = cell_cmp} cells.new.entries) c ≡ None }
+{
+    let mut notes = notes;
+    while let Some((at, value)) = notes.pop_first() {
+        put_one(cells, &at, value)?;
+    }
+    Ok(())
+}
+
+/// The cell of whose content a place is a part.
+fn holder(at: &Loc) -> Option<Cell>
+    ensures { result ≡ holder (spot_of at.now) }
+{
+    match at {
+        Loc::Entry { dict, .. } | Loc::Keys { dict } | Loc::Access { dict } => Some(*dict),
+        Loc::Item { array, .. } => Some(*array),
+        Loc::Byte { .. } | Loc::Rand | Loc::Paper => None,
+    }
+}
+
+impl Locals {
+    ghost use Rattle.ps_objects.specs.declared.cell.Space.TheVariants.{Local};
+    ghost use Rattle.vm_content.specs.Next.{IsNextIn};
+
+    /// The first local cell after another, or at all, with its shape.
+    pub fn next(&self, after: Option<Cell>) -> Option<(Cell, Shape)>
+        ensures { IsNextIn Local self.now.cells after result }
+    {
+        next_in(&self.cells, Space::Local, after)
+    }
+
+    /// A local part with the same cells and kept copies.
+    pub fn copy(&self) -> Result<Locals, NoMemory>
+        ensures { IfOk result (λ copy. copy ≡ self.now) }
+    {
+        let cells = copy_map(self.alloc, &self.cells)?;
+        let saves = copy_saves(self.alloc, &self.saves)?;
+        Ok(Locals {
+            alloc: self.alloc,
+            cells,
+            saves,
+        })
+    }
+}
+
+fn copy_saves(alloc: Global, saves: &Vec<OpenSave>) -> Result<Vec<OpenSave>, NoMemory>
+    ensures { IfOk result (λ copy. copy.items ≡ saves.now.items) }
+{
+    let mut copy = Vec::new(alloc);
+    for save in saves.as_slice() {
+        copy.push(save.copy(alloc)?)?;
+    }
+    Ok(copy)
+}
