@@ -16,17 +16,17 @@ use Rattle.ps_objects.specs.declared.key.Key.{Key}
 use Rattle.ps_objects.specs.declared.object.Object.{Object}
 use Rattle.ps_objects.specs.declared.place.Loc.TheVariants as loc
 use Rattle.ps_objects.specs.declared.place.Value.TheVariants as value
-use Rattle.ps_memory.specs.Memory.{is_global, newer, same_save, Content, dictionary, items, characters, Cells, Memory, part, in_content, whole, item, entry, access, object_found, byte_found, in_string, told, keys_of, shape_in, shape_at, value_at, is_slot, is_byte, copy_named, perform}
+use Rattle.ps_memory.specs.Memory.{is_global, newer, same_save, Content, dictionary, items, characters, Cells, Memory, part, in_content, whole, item, entry, access, object_found, byte_found, page_found, Page, here, out, in_string, told, keys_of, shape_in, shape_at, value_at, is_slot, is_byte, copy_named, perform}
 use Rattle.ps_memory.specs.Frame.{later, Allowed, IsUnused, IsNewest}
 use Rattle.ps_memory.specs.Writes.{apply, is_write, Applicable}
 use Rattle.vm_cells.specs.Conditions.{is_dictionary, stands}
 use Rattle.vm_journal.specs.Part.{HaveCells}
 use Rattle.vm_content.specs.Next.{is_after, IsNextIn}
 use Rattle.ps_memory.specs.Order.{cell_cmp}
-use Rattle.vm_cells.specs.Whole.{HaveHolders}
-use Rattle.vm_cells.specs.Writes.{action_of, actions}
-use Rattle.vm_cells.specs.declared.writes.Write.{Write}
-use Rattle.vm_cells.specs.declared.writes.Write.TheVariants.{Fresh, Put, Remove, Save}
+use Rattle.vm_committed.specs.Whole.{is_here, HaveHolders}
+use Rattle.vm_committed.specs.Writes.{action_of, actions}
+use Rattle.vm_committed.specs.declared.writes.Write.{Write}
+use Rattle.vm_committed.specs.declared.writes.Write.TheVariants.{Fresh, Put, Remove, Save}
 use Rattle.vm_content.proofs.Cells.{cell_found}
 
 -- ---- open saves
@@ -185,3 +185,12 @@ one_more_applicable w ws new M m e a h i = subst (λ us. Applicable (actions us)
 
 pub one_more_applied : (w : Write) (ws new : List Write) (M m n : Memory) → m ≡ apply (actions ws) M → n ≡ perform (action_of w) m → new ≡ w ∷ ws → n ≡ apply (actions new) M
 one_more_applied w ws new M m n e h i = h ∙ ap (perform (action_of w)) e ∙ sym (ap (λ us. apply (actions us) M) i)
+
+-- ---- the paper
+
+pub paper_is_here : (M : Memory) → value_at M loc.Paper ≢ value.Absent → is_here M.page ≡ true
+paper_is_here M h = go M.page h
+  where
+    go : (p : Page) → told (page_found p) ≢ value.Absent → is_here p ≡ true
+    go (here p) h = refl
+    go (out w d) h = absurd (h refl)

@@ -1,11 +1,1 @@
-mod WholeValues
-mod WholeStores
-mod Undoing
-mod TakingBack
-mod WholeMaking
-mod WholeClosing
-mod Nexts
-mod Applied
-mod Holding
-mod Starting
 mod Asking

@@ -10,11 +10,6 @@ use Rattle.ps_meaning.specs.Answer.{Log, acted_in, is_outer}
 use Rattle.vm_cells.specs.declared.restore_refusal.RestoreRefusal.{RestoreRefusal}
 use Rattle.vm_cells.specs.declared.restore_refusal.RestoreRefusal.TheVariants as refusal
 
--- no operator has the paper in its hands
-abbrev pub is_here : Page → Bool
-is_here (here p) = true
-is_here (out w h) = false
-
 abbrev pub is_dictionary : Option Content → Bool
 is_dictionary (Some (dictionary n a es)) = true
 is_dictionary _ = false

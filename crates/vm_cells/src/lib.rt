@@ -1,25 +1,15 @@
-//! The committed memory.
+//! The traits of memory, which the committed memory has.
 #![tactic(auto)]
 
-mod applying;
 mod base;
 mod based;
-mod cells;
 mod committed;
-mod copies;
-mod holds;
 mod mem;
-mod next;
-mod page;
-mod quick;
 mod restore_refusal;
 #[cfg(test)]
 mod tests;
-mod undo;
-mod writes;
 
 pub use base::Base;
-pub use cells::Cells;
 pub use mem::Mem;
 pub use restore_refusal::RestoreRefusal;
-pub use writes::{Write, Writes};
+pub use vm_committed::{Cells, Write, Writes};

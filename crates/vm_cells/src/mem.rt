@@ -5,7 +5,8 @@ ghost use Rattle.ps_objects.specs.declared.place.Value.TheVariants as value;
 ghost use Rattle.ps_memory.specs.Memory.{here, out, blank, shape_at, shape_of, value_at, store, fresh, save, restore};
 ghost use Rattle.ps_memory.specs.Frame.{Allowed};
 ghost use Rattle.ps_meaning.specs.Answer.{Log, looked_in, acted_in};
-ghost use Rattle.vm_cells.specs.Conditions.{is_here, stands, lifted, Restores};
+ghost use Rattle.vm_cells.specs.Conditions.{stands, lifted, Restores};
+ghost use Rattle.vm_committed.specs.Whole.{is_here};
 
 use crate::RestoreRefusal;
 use ps_objects::{Cell, Key, Loc, NoMemory, SaveName, Shape, Value};

@@ -4,11 +4,11 @@ ghost use Rattle.ps_objects.specs.declared.place.Value.TheVariants as value;
 ghost use Rattle.ps_memory.specs.Memory.{is_global, newer, value_at, is_place, is_kind, spot_of, copy_named, perform};
 ghost use Rattle.ps_memory.specs.Frame.{Allowed, IsUnused, IsNewest, later};
 ghost use Rattle.ps_memory.specs.Writes.{Applicable};
-ghost use Rattle.vm_cells.specs.Conditions.{is_here, stands};
-ghost use Rattle.vm_cells.specs.Writes.{action_of, actions};
+ghost use Rattle.vm_cells.specs.Conditions.{stands};
+ghost use Rattle.vm_committed.specs.Whole.{is_here};
+ghost use Rattle.vm_committed.specs.Writes.{action_of, actions};
 
 use super::*;
-use crate::page::Page;
 use ps_objects::{
     Access, Cell, Key, Keys, Kind, Loc, Name, NoMemory, Object, Op, Paper, SaveName, Settings,
     Shape, Space, Value,
@@ -21,13 +21,11 @@ use vm_journal::Locals;
 
 // What may be done to a memory, asked as the test runs: each call's condition is then known.
 
+#[tactic(auto, using(crate::proofs::Asking::paper_is_here))]
 fn is_here(memory: &Cells) -> bool
     ensures { IsTrue result → is_here memory.now.page ≡ true }
 {
-    match &memory.page {
-        Page::Here(_) => true,
-        Page::Out { .. } => false,
-    }
+    is_found(memory, &Loc::Paper)
 }
 
 /// Whether a place holds something.
@@ -100,7 +98,7 @@ fn is_newest(memory: &Cells, name: SaveName) -> bool
         count: name.count,
         space: Space::Global,
     };
-    memory.locals.next(Some(last)).is_none()
+    memory.locals().next(Some(last)).is_none()
 }
 
 /// Closes the newest save of a local part, without its strings.
@@ -155,14 +153,14 @@ fn is_open_in(locals: &Locals, alloc: Global, name: SaveName) -> Result<bool, No
 fn is_latest(memory: &Cells, name: SaveName) -> Result<bool, NoMemory>
     ensures { IfOk result (λ b. IsTrue b → AllByRecursion (λ k. later name k.0 ≡ true) memory.now.kept) }
 {
-    is_latest_in(&memory.locals, memory.alloc, name)
+    is_latest_in(memory.locals(), memory.alloc(), name)
 }
 
 /// Whether a save of this name is open.
 fn is_open(memory: &Cells, name: SaveName) -> Result<bool, NoMemory>
     ensures { IfOk result (λ b. IsTrue b → copy_named name memory.now.kept ≢ None) }
 {
-    is_open_in(&memory.locals, memory.alloc, name)
+    is_open_in(memory.locals(), memory.alloc(), name)
 }
 
 /// Whether a local cell is newer than all open saves.
@@ -255,7 +253,7 @@ fn add(memory: &mut Cells, writes: &mut Writes, write: Write) -> Result<bool, No
 fn written(memory: &Cells, steps: &[Step]) -> Result<Option<Writes>, NoMemory>
     ensures { IfOk result (λ writes. IfSome writes (λ writes. Applicable (actions writes) memory.now)) }
 {
-    let mut writes = Writes::new(memory.alloc);
+    let mut writes = Writes::new(memory.alloc());
     let mut after = memory.copied()?;
     for step in steps {
         let Some(write) = step.write() else {
@@ -919,7 +917,7 @@ fn wipes(memory: &mut Cells, width: u32, height: u32) -> Result<bool, NoMemory> 
         return Ok(false);
     }
     memory.wipe(width, height)?;
-    let blank = Value::Paper(Paper::blank(memory.alloc, width, height)?);
+    let blank = Value::Paper(Paper::blank(memory.alloc(), width, height)?);
     Ok(memory.view_at(&Loc::Paper)? == blank)
 }
 

@@ -1,7 +1,0 @@
-use Rattle.std.proofs.Common.{refl}
-use Rattle.vm_cells.specs.contracts.cells.Cells.{the_view}
-use Rattle.vm_cells.proofs.WholeMaking.{holders_made}
-use Rattle.vm_cells.proofs.cells.Cells.make_held.Goals as goal
-
-pub invariant_of-self-2 : goal.invariant_of-self-2
-invariant_of-self-2 c = holders_made (the_view c.self.inside) c.insert_cell.new.locals _ _ c.args.cell c.args.content c.in_ok-insert_cell.ensures.locals c.in_ok-insert_cell.ensures.globals (λ d i. refl) c.self.invariant

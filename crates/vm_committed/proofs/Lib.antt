@@ -1,0 +1,10 @@
+mod WholeValues
+mod WholeStores
+mod WholeMaking
+mod WholeClosing
+mod Undoing
+mod TakingBack
+mod Nexts
+mod Applied
+mod Holding
+mod Starting

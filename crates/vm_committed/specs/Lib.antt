@@ -1,0 +1,4 @@
+pub mod Whole
+pub mod Writes
+pub mod Next
+pub mod Undo

@@ -1,0 +1,52 @@
+-- A memory, seen from its parts.
+use Rattle.std.specs.Prelude.{◌≡◌, ℕ, Bool, true, false, refl, None, ◌⊎◌}
+use Rattle.std.proofs.Common.{inl, inr}
+use Rattle.std.specs.Coded.{Coded, code_by, coded×, coded⊎, coded_list, coded_ℕ}
+use Rattle.std.specs.FinMap as map
+use Rattle.std.specs.FinMap.{get}
+use Rattle.ps_shapes.specs.Sheet.{Sheet}
+use Rattle.ps_shapes.specs.contracts.paper.Paper as papers
+use Rattle.ps_objects.specs.declared.cell.Cell.{Cell}
+use Rattle.ps_objects.specs.contracts.cell.Cell as cells
+use Rattle.ps_memory.specs.Memory as spec
+use Rattle.ps_memory.specs.Memory.{Memory, part, here, out}
+use Rattle.vm_journal.specs.Part.{cells_code, kept_code}
+use Rattle.vm_committed.specs.declared.page.Page.{Page}
+use Rattle.vm_committed.specs.declared.page.Page.TheVariants.{Here, Out}
+
+abbrev pub page_of : Page → spec.Page
+page_of (Here paper) = here paper
+page_of (Out width height) = out width height
+
+-- no operator has the paper in its hands
+abbrev pub is_here : spec.Page → Bool
+is_here (here p) = true
+is_here (out w h) = false
+
+-- each string is a cell's that stands
+abbrev pub HaveHolders : Memory → Type 0
+HaveHolders M = (c : Cell) → get (part M c) c ≡ None → get M.strings c ≡ None
+
+-- ---- how a memory is told from another
+
+abbrev page_parts : spec.Page → Sheet ⊎ (ℕ × ℕ)
+page_parts (here p) = inl p
+page_parts (out w h) = inr (w, h)
+
+abbrev of_page_parts : Sheet ⊎ (ℕ × ℕ) → spec.Page
+of_page_parts (inl p) = here p
+of_page_parts (inr p) = out p.0 p.1
+
+abbrev same_page_parts : (x : spec.Page) → of_page_parts (page_parts x) ≡ x
+same_page_parts (here p) = refl
+same_page_parts (out w h) = refl
+
+abbrev page_code : Coded spec.Page
+page_code = code_by _ (coded⊎ papers.the_row.coded (coded× coded_ℕ coded_ℕ)) page_parts of_page_parts same_page_parts
+
+abbrev pub memory_code : Coded Memory
+memory_code = code_by _
+    (coded× cells_code (coded× cells_code (coded× (map.code cells.the_row.coded (coded_list coded_ℕ)) (coded× coded_ℕ (coded× page_code kept_code)))))
+    (λ M. (M.locals, (M.globals, (M.strings, (M.rand, (M.page, M.kept))))))
+    (λ p. record { locals = p.0; globals = p.1.0; strings = p.1.1.0; rand = p.1.1.1.0; page = p.1.1.1.1.0; kept = p.1.1.1.1.1 })
+    (λ _. refl)

@@ -1,0 +1,442 @@
+//! The committed memory.
+ghost use Rattle.std.specs.Prelude.{◌≡◌, ◌≢◌, true, false, cond, replicate, None, Some, option_copied, IfOk, OnOk, OnErr};
+ghost use Rattle.std.specs.FinMap.{get, insert, from_entries};
+ghost use Rattle.std.specs.List.{AllByRecursion};
+ghost use Rattle.ps_memory.specs.Order.{cell_cmp};
+ghost use Rattle.ps_objects.specs.declared.place.Loc.TheVariants as loc;
+ghost use Rattle.ps_objects.specs.declared.place.Value.TheVariants as value;
+ghost use Rattle.ps_memory.specs.Memory.{is_global, newer, part, with_part, value_at, shape_of, told, in_string, page_found, here, blank, lift, is_slot, is_kind, held, byte, rand, paper, spot_of, put_content, put_byte, put_cell, do_store, store, fresh, save, restore, copy_named, older_than, perform};
+ghost use Rattle.ps_memory.specs.Frame.{Allowed};
+ghost use Rattle.vm_content.specs.Content.{slot_in};
+ghost use Rattle.vm_committed.specs.Whole.{is_here, HaveHolders};
+ghost use Rattle.vm_journal.specs.Part.{HaveCells, kept_from};
+
+use crate::page::Page;
+use ps_objects::{Cell, Key, Loc, NoMemory, SaveName, Shape, Space, Value};
+use ps_shapes::Paper;
+use std::alloc::Global;
+use std::collections::BTreeMap;
+use std::marker::Model;
+use std::mem::replace;
+use vm_content::{Bytes, Content};
+use vm_journal::Locals;
+
+/// The committed memory: local and global cells, the bytes of strings, the state of the random numbers and the paper
+/// (section 3.7 of the language manual: virtual memory).
+///
+/// A save costs constant time, a store under an open save notes the old value once, and a restore costs what was changed.
+#[derive(Drop)]
+pub struct Cells {
+    pub(crate) alloc: Global,
+    pub(crate) locals: Locals,
+    pub(crate) globals: BTreeMap<Cell, Content>,
+    pub(crate) strings: BTreeMap<Cell, Bytes>,
+    pub(crate) rand: u32,
+    pub(crate) page: Page,
+}
+
+impl Model for Cells {
+    ghost use Rattle.std.specs.FinMap.{from_entries};
+    ghost use Rattle.ps_memory.specs.Order.{cell_cmp};
+    ghost use Rattle.ps_memory.specs.Memory.{Memory};
+    ghost use Rattle.vm_committed.specs.Whole.{memory_code, page_of, HaveHolders};
+
+    ghost Value = { Memory };
+
+    ghost coded = { memory_code };
+
+    ghost view = { λ m. record { locals = m.locals.cells; globals = from_entries {R = cell_cmp} m.globals.entries; strings = from_entries {R = cell_cmp} m.strings.entries; rand = m.rand; page = page_of m.page; kept = m.locals.kept } };
+
+    ghost invariant = { λ m. HaveHolders (record { locals = m.locals.cells; globals = from_entries {R = cell_cmp} m.globals.entries; strings = from_entries {R = cell_cmp} m.strings.entries; rand = m.rand; page = page_of m.page; kept = m.locals.kept }) };
+}
+
+impl Cells {
+    pub fn alloc(&self) -> Global {
+        self.alloc
+    }
+
+    /// The local part: its cells and the open saves. Each string of the memory is a cell's that stands.
+    pub fn locals(&self) -> &Locals
+        ensures part { result.now ≡ record { cells = self.now.locals; kept = self.now.kept } }
+        ensures holders { HaveHolders self.now }
+    {
+        &self.locals
+    }
+
+    /// What a cell holds, if it stands.
+    #[tactic(auto, using(vm_content::proofs::Cells::cell_found))]
+    pub fn content(&self, cell: Cell) -> Option<&Content>
+        ensures { option_copied result ≡ get (part self.now cell) cell }
+    {
+        match cell.space {
+            Space::Local => self.locals.get(cell),
+            Space::Global => self.globals.get(&cell),
+        }
+    }
+
+    /// A copy of the value at a place: absent where there is none.
+    pub fn value(&self, at: &Loc) -> Result<Value, NoMemory>
+        ensures { IfOk result (λ value. value ≡ value_at self.now at.now) }
+    {
+        match at {
+            Loc::Entry { dict, .. } | Loc::Keys { dict } | Loc::Access { dict } => {
+                self.held_value(*dict, at)
+            }
+            Loc::Item { array, .. } => self.held_value(*array, at),
+            Loc::Byte { string, at } => Ok(self.byte(*string, *at)),
+            Loc::Rand => Ok(Value::Rand(self.rand)),
+            Loc::Paper => self.paper(),
+        }
+    }
+
+    /// Stores a value of the place's kind. Where memory runs out, nothing has changed.
+    pub fn put(&mut self, at: &Loc, value: Value) -> Result<(), NoMemory>
+        requires { Allowed (store at.now value) self.old }
+        ensures ok { OnOk result (self.new ≡ perform (store at.now value) self.old) }
+        ensures err { OnErr result (self.new ≡ self.old) }
+    {
+        match at {
+            Loc::Entry { dict, .. } | Loc::Keys { dict } | Loc::Access { dict } => {
+                self.put_held(*dict, at, value)
+            }
+            Loc::Item { array, .. } => self.put_held(*array, at, value),
+            Loc::Byte { string, at } => {
+                self.put_byte(*string, *at, value);
+                Ok(())
+            }
+            Loc::Rand => {
+                self.put_rand(value);
+                Ok(())
+            }
+            Loc::Paper => {
+                self.put_paper(value);
+                Ok(())
+            }
+        }
+    }
+
+    /// Makes a cell. Where memory runs out, nothing has changed.
+    #[tactic(auto, using(crate::proofs::WholeMaking::none_removed))]
+    pub fn make(&mut self, cell: Cell, shape: Shape) -> Result<(), NoMemory>
+        requires { Allowed (fresh cell shape) self.old }
+        ensures ok { OnOk result (self.new ≡ perform (fresh cell shape) self.old) }
+        ensures err { OnErr result (self.new ≡ self.old) }
+    {
+        let content = Content::fresh(self.alloc, shape)?;
+        match shape {
+            Shape::Str { len } => self.make_string(cell, len, content),
+            Shape::Array { .. } => self.make_held(cell, content),
+            Shape::Dict { .. } => self.make_held(cell, content),
+        }
+    }
+
+    /// Opens a save. Where memory runs out, nothing has changed.
+    pub fn open(&mut self, name: SaveName) -> Result<(), NoMemory>
+        requires { Allowed (save name) self.old }
+        ensures ok { OnOk result (self.new ≡ perform (save name) self.old) }
+        ensures err { OnErr result (self.new ≡ self.old) }
+    {
+        self.locals.open(name)
+    }
+
+    /// Gives the local part back as it was at an open save, and closes it and all later ones
+    /// (section 3.7.3 of the language manual: save and restore).
+    #[tactic(auto, using(crate::proofs::WholeClosing::holders_kept))]
+    pub fn give_back(&mut self, name: SaveName) -> Result<(), NoMemory>
+        requires { Allowed (restore name) self.old }
+        ensures { OnOk result (self.new ≡ perform (restore name) self.old) }
+    {
+        close_until(&mut self.locals, &mut self.strings, name)?;
+        Ok(())
+    }
+}
+
+// What an operator asks for besides.
+impl Cells {
+    /// The shape of a cell that stands.
+    pub fn shape_of(&self, cell: Cell) -> Shape
+        ensures { result ≡ shape_of self.now cell }
+    {
+        match self.content(cell) {
+            Some(content) => content.shape(),
+            None => Shape::Dict { capacity: 0 },
+        }
+    }
+
+    /// Takes the entry of a key away, if there is one.
+    pub fn remove_entry(&mut self, dict: Cell, key: &Key) -> Result<(), NoMemory>
+        requires { Allowed (store (loc.Entry dict key.now) value.Absent) self.old }
+        ensures { OnOk result (self.new ≡ perform (store (loc.Entry dict key.now) value.Absent) self.old) }
+    {
+        let at = Loc::Entry {
+            dict,
+            key: key.copy()?,
+        };
+        self.put(&at, Value::Absent)
+    }
+
+    /// Takes the paper out.
+    pub fn take_paper(&mut self) -> Paper
+        requires { is_here self.old.page ≡ true }
+        ensures paper { self.old.page ≡ here result }
+        ensures lifted { self.new ≡ lift self.old }
+    {
+        let nowhere = Page::Out {
+            width: 0,
+            height: 0,
+        };
+        match replace(&mut self.page, nowhere) {
+            Page::Here(paper) => {
+                self.page = Page::Out {
+                    width: paper.width(),
+                    height: paper.height(),
+                };
+                paper
+            }
+            Page::Out { .. } => unreachable!(),
+        }
+    }
+
+    /// Stores paper.
+    pub fn lay_paper(&mut self, paper: Paper)
+        ensures { self.new ≡ perform (store loc.Paper (value.Paper paper)) self.old }
+    {
+        self.page = Page::Here(paper);
+    }
+
+    /// Stores blank paper of a size in pixels.
+    pub fn blank_paper(&mut self, width: u32, height: u32) -> Result<(), NoMemory>
+        ensures { OnOk result (self.new ≡ perform (store loc.Paper (value.Paper (blank width height))) self.old) }
+    {
+        let paper = Paper::blank(self.alloc, width, height)?;
+        self.lay_paper(paper);
+        Ok(())
+    }
+}
+
+// The kinds of places, one by one.
+impl Cells {
+    /// A copy of the value at a place of a cell.
+    #[tactic(auto, using(crate::proofs::WholeValues::held_found, crate::proofs::WholeValues::held_missing))]
+    fn held_value(&self, cell: Cell, at: &Loc) -> Result<Value, NoMemory>
+        requires { spot_of at.now ≡ held cell (slot_in at.now) }
+        ensures { IfOk result (λ value. value ≡ value_at self.now at.now) }
+    {
+        match self.content(cell) {
+            Some(content) => content.value(at),
+            None => Ok(Value::Absent),
+        }
+    }
+
+    /// The byte at a place of a string.
+    #[tactic(auto, using(vm_content::proofs::Cells::cell_found))]
+    fn byte(&self, string: Cell, at: u32) -> Value
+        ensures { result ≡ told (in_string (get self.now.strings string) at) }
+    {
+        match self.strings.get(&string) {
+            Some(bytes) => match bytes.get(at) {
+                Some(byte) => Value::Byte(byte),
+                None => Value::Absent,
+            },
+            None => Value::Absent,
+        }
+    }
+
+    /// A copy of the paper.
+    fn paper(&self) -> Result<Value, NoMemory>
+        ensures { IfOk result (λ value. value ≡ told (page_found self.now.page)) }
+    {
+        match &self.page {
+            Page::Here(paper) => Ok(Value::Paper(paper.copy()?)),
+            Page::Out { .. } => Ok(Value::Absent),
+        }
+    }
+
+    /// Stores a value at a place of a cell.
+    fn put_held(&mut self, cell: Cell, at: &Loc, value: Value) -> Result<(), NoMemory>
+        requires spot { spot_of at.now ≡ held cell (slot_in at.now) }
+        requires place { is_slot (get (part self.old cell) cell) (slot_in at.now) ≡ true }
+        ensures ok { OnOk result (self.new ≡ do_store (held cell (slot_in at.now)) value self.old) }
+        ensures err { OnErr result (self.new ≡ self.old) }
+    {
+        match cell.space {
+            Space::Local => self.locals.put(cell, at, value),
+            Space::Global => put_in(&mut self.globals, cell, at, value),
+        }
+    }
+
+    fn put_byte(&mut self, string: Cell, at: u32, value: Value)
+        requires { is_kind (byte string at) value ≡ true }
+        ensures { self.new ≡ do_store (byte string at) value self.old }
+    {
+        match value {
+            Value::Byte(byte) => put_byte_in(&mut self.strings, string, at, byte),
+            _ => {}
+        }
+    }
+
+    fn put_rand(&mut self, value: Value)
+        requires { is_kind rand value ≡ true }
+        ensures { self.new ≡ do_store rand value self.old }
+    {
+        match value {
+            Value::Rand(state) => self.rand = state,
+            _ => {}
+        }
+    }
+
+    fn put_paper(&mut self, value: Value)
+        requires { is_kind paper value ≡ true }
+        ensures { self.new ≡ do_store paper value self.old }
+    {
+        match value {
+            Value::Paper(paper) => self.page = Page::Here(paper),
+            _ => {}
+        }
+    }
+}
+
+// New cells.
+impl Cells {
+    /// Adds a cell that isn't a string's.
+    fn make_held(&mut self, cell: Cell, content: Content) -> Result<(), NoMemory>
+        requires unused { get self.old.strings cell ≡ None }
+        requires newest { is_global cell ≡ false → AllByRecursion (λ k. newer cell k.0 ≡ true) self.old.kept }
+        ensures ok { OnOk result (self.new ≡ with_part self.old cell (λ m. insert m cell content)) }
+        ensures err { OnErr result (self.new ≡ self.old) }
+    {
+        insert_cell(&mut self.locals, &mut self.globals, cell, content)?;
+        Ok(())
+    }
+
+    /// Adds a string's cell, and `len` zeros.
+    fn make_string(&mut self, cell: Cell, len: u32, content: Content) -> Result<(), NoMemory>
+        requires unused { get self.old.strings cell ≡ None }
+        requires newest { is_global cell ≡ false → AllByRecursion (λ k. newer cell k.0 ≡ true) self.old.kept }
+        ensures ok { OnOk result (self.new ≡ record (with_part self.old cell (λ m. insert m cell content)) { strings = insert self.old.strings cell (replicate len 0) }) }
+        ensures err { OnErr result (self.new ≡ self.old) }
+    {
+        let bytes = Bytes::zeros(self.alloc, len)?;
+        insert_string(
+            &mut self.locals,
+            &mut self.globals,
+            &mut self.strings,
+            cell,
+            content,
+            bytes,
+        )?;
+        Ok(())
+    }
+}
+
+/// Adds a string's cell and its bytes. Where memory runs out, nothing has changed.
+#[tactic(auto, using(vm_content::proofs::Cells::cell_inserted))]
+fn insert_string(
+    locals: &mut Locals,
+    globals: &mut BTreeMap<Cell, Content>,
+    strings: &mut BTreeMap<Cell, Bytes>,
+    cell: Cell,
+    content: Content,
+    bytes: Bytes,
+) -> Result<(), NoMemory>
+    requires unused { get (from_entries {R = cell_cmp} strings.old.entries) cell ≡ None }
+    requires newest { is_global cell ≡ false → AllByRecursion (λ k. newer cell k.0 ≡ true) locals.old.kept }
+    ensures locals { OnOk result (locals.new ≡ record { cells = cond (is_global cell) locals.old.cells (insert locals.old.cells cell content); kept = locals.old.kept }) }
+    ensures globals { OnOk result (from_entries {R = cell_cmp} globals.new.entries ≡ cond (is_global cell) (insert (from_entries {R = cell_cmp} globals.old.entries) cell content) (from_entries {R = cell_cmp} globals.old.entries)) }
+    ensures strings { OnOk result (from_entries {R = cell_cmp} strings.new.entries ≡ insert (from_entries {R = cell_cmp} strings.old.entries) cell bytes) }
+    ensures same_locals { OnErr result (locals.new ≡ locals.old) }
+    ensures same_globals { OnErr result (from_entries {R = cell_cmp} globals.new.entries ≡ from_entries {R = cell_cmp} globals.old.entries) }
+    ensures same_strings { OnErr result (from_entries {R = cell_cmp} strings.new.entries ≡ from_entries {R = cell_cmp} strings.old.entries) }
+{
+    strings.insert(cell, bytes)?;
+    match insert_cell(locals, globals, cell, content) {
+        Ok(()) => Ok(()),
+        Err(error) => {
+            strings.remove(&cell);
+            Err(error)
+        }
+    }
+}
+
+/// Adds a cell to its part.
+fn insert_cell(
+    locals: &mut Locals,
+    globals: &mut BTreeMap<Cell, Content>,
+    cell: Cell,
+    content: Content,
+) -> Result<(), NoMemory>
+    requires newest { is_global cell ≡ false → AllByRecursion (λ k. newer cell k.0 ≡ true) locals.old.kept }
+    ensures locals { OnOk result (locals.new ≡ record { cells = cond (is_global cell) locals.old.cells (insert locals.old.cells cell content); kept = locals.old.kept }) }
+    ensures globals { OnOk result (from_entries {R = cell_cmp} globals.new.entries ≡ cond (is_global cell) (insert (from_entries {R = cell_cmp} globals.old.entries) cell content) (from_entries {R = cell_cmp} globals.old.entries)) }
+    ensures same_locals { OnErr result (locals.new ≡ locals.old) }
+    ensures same_globals { OnErr result (from_entries {R = cell_cmp} globals.new.entries ≡ from_entries {R = cell_cmp} globals.old.entries) }
+{
+    match cell.space {
+        Space::Local => locals.insert(cell, content)?,
+        Space::Global => insert_in(globals, cell, content)?,
+    }
+    Ok(())
+}
+
+/// Adds a cell to a map.
+#[tactic(auto, using(vm_content::proofs::Cells::cell_inserted))]
+fn insert_in(
+    cells: &mut BTreeMap<Cell, Content>,
+    cell: Cell,
+    content: Content,
+) -> Result<(), NoMemory>
+    ensures ok { OnOk result (from_entries {R = cell_cmp} cells.new.entries ≡ insert (from_entries {R = cell_cmp} cells.old.entries) cell content) }
+    ensures err { OnErr result (from_entries {R = cell_cmp} cells.new.entries ≡ from_entries {R = cell_cmp} cells.old.entries) }
+{
+    cells.insert(cell, content)?;
+    Ok(())
+}
+
+/// Stores a value at a place of a cell of a map.
+#[tactic(auto, using(vm_content::proofs::Cells::cell_written, vm_content::proofs::Cells::cell_missing, crate::proofs::WholeStores::cell_kept))]
+fn put_in(
+    cells: &mut BTreeMap<Cell, Content>,
+    cell: Cell,
+    at: &Loc,
+    value: Value,
+) -> Result<(), NoMemory>
+    ensures ok { OnOk result (from_entries {R = cell_cmp} cells.new.entries ≡ put_cell cell (put_content (slot_in at.now) value) (from_entries {R = cell_cmp} cells.old.entries)) }
+    ensures err { OnErr result (from_entries {R = cell_cmp} cells.new.entries ≡ from_entries {R = cell_cmp} cells.old.entries) }
+{
+    match cells.get_mut(&cell) {
+        Some(content) => content.put(at, value),
+        None => Ok(()),
+    }
+}
+
+/// Stores a byte of a string, if the string is that long.
+#[tactic(auto, using(vm_content::proofs::Cells::cell_written, vm_content::proofs::Cells::cell_missing))]
+pub(crate) fn put_byte_in(strings: &mut BTreeMap<Cell, Bytes>, string: Cell, at: u32, byte: u8)
+    ensures { from_entries {R = cell_cmp} strings.new.entries ≡ put_cell string (put_byte at (value.Byte byte)) (from_entries {R = cell_cmp} strings.old.entries) }
+{
+    if let Some(bytes) = strings.get_mut(&string) {
+        bytes.set(at, byte);
+    }
+}
+
+/// Closes the open saves from the newest to the one of this name, which is open.
+fn close_until(
+    locals: &mut Locals,
+    strings: &mut BTreeMap<Cell, Bytes>,
+    name: SaveName,
+) -> Result<(), NoMemory>
+    requires cells { HaveCells (from_entries {R = cell_cmp} strings.old.entries) locals.old.cells }
+    requires open { copy_named name locals.old.kept ≢ None }
+    ensures copy { OnOk result (copy_named name locals.old.kept ≡ Some locals.new.cells) }
+    ensures kept { OnOk result (locals.new.kept ≡ older_than name locals.old.kept) }
+    ensures strings { OnOk result (from_entries {R = cell_cmp} strings.new.entries ≡ kept_from name (from_entries {R = cell_cmp} strings.old.entries)) }
+    ensures cells { HaveCells (from_entries {R = cell_cmp} strings.new.entries) locals.new.cells }
+    ensures fewer { (c : Cell) → get (from_entries {R = cell_cmp} strings.old.entries) c ≡ None → get (from_entries {R = cell_cmp} strings.new.entries) c ≡ None }
+{
+    while let Some(closed) = locals.close(strings)? {
+        if name == closed {
+            break;
+        }
+    }
+    Ok(())
+}

@@ -1,0 +1,16 @@
+//! The committed memory.
+#![tactic(auto)]
+
+mod applying;
+mod at_start;
+mod cells;
+mod copies;
+mod holds;
+mod next;
+mod page;
+mod quick;
+mod undo;
+mod writes;
+
+pub use cells::Cells;
+pub use writes::{Write, Writes};
