@@ -73,7 +73,7 @@ module _ (W : World) (M : Memory) (s : SoundMemory W M) where
   paper_answer : (x : Page) → HasPage x W.size → IsAnswer W loc.Paper (told (page_found x))
   paper_answer x h = subst (λ x. IsAnswer W loc.Paper (told (page_found x))) (sym h.1) h.2
 
-  answered : (l : Loc) → IsLoc W.shapes l → IsAnswer W l (value_at M l)
+  pub answered : (l : Loc) → IsLoc W.shapes l → IsAnswer W l (value_at M l)
   answered (loc.Entry d k) i = entry_answer d k (get (part M d) d) i.0 (s.shapes d ∙ i.1) (s.slots d (entry k))
   answered (loc.Keys d) i = keys_answer d (get (part M d) d) i.0 (s.shapes d ∙ i.1) (λ k. s.slots d (entry k))
   answered (loc.Access d) i = access_answer d (get (part M d) d) i.0 (s.shapes d ∙ i.1)

@@ -1,5 +1,5 @@
 -- Objects and keys whose cells stand, with a fitting shape and range.
-use Rattle.std.specs.Prelude.{◌≡◌, ℕ, ◌+◌, ◌<◌, Bool, true, false, ◌&&◌, ◌||◌, Option, Some, None, nat_eq, nat_le, ⊤}
+use Rattle.std.specs.Prelude.{◌≡◌, ℕ, ◌+◌, ◌<◌, Bool, true, false, ◌&&◌, ◌||◌, Option, Some, None, nat_eq, nat_le, nat_lt, ⊤}
 use Rattle.ps_objects.specs.declared.cell.Cell.{Cell}
 use Rattle.ps_objects.specs.declared.key.Key.{Key}
 use Rattle.ps_objects.specs.declared.key.Key.TheVariants as key
@@ -24,10 +24,14 @@ cell_named (kind.Array c start len packed) = Some c
 cell_named (kind.Dict c) = Some c
 cell_named _ = None
 
+-- an interval lies within so many places, and its end has 32 bits, as lengths have
+abbrev pub lies_within : (start len size : ℕ) → Bool
+lies_within start len size = nat_le (start + len) size && nat_lt (start + len) 4294967296
+
 -- whether an object may name a cell of this shape
 abbrev pub takes : Kind → Shape → Bool
-takes (kind.Str c start len) (shape.Str n) = nat_le (start + len) n
-takes (kind.Array c start len packed) (shape.Array n) = nat_le (start + len) n
+takes (kind.Str c start len) (shape.Str n) = lies_within start len n
+takes (kind.Array c start len packed) (shape.Array n) = lies_within start len n
 takes (kind.Dict c) (shape.Dict n) = true
 takes _ _ = false
 
@@ -37,7 +41,7 @@ cell_of_key (key.Dict c) = Some c
 cell_of_key _ = None
 
 abbrev pub key_takes : Key → Shape → Bool
-key_takes (key.Array c start len packed) (shape.Array n) = nat_le (start + len) n
+key_takes (key.Array c start len packed) (shape.Array n) = lies_within start len n
 key_takes (key.Dict c) (shape.Dict n) = true
 key_takes _ _ = false
 

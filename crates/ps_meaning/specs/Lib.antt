@@ -4,3 +4,5 @@ pub mod Registers
 pub mod Kin
 pub mod Start
 pub mod Answer
+pub mod Budgets
+pub mod Ready

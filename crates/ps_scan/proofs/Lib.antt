@@ -5,3 +5,4 @@ pub mod TokenLemmas
 pub mod StringLemmas
 pub mod RealLemmas
 pub mod PrintedLemmas
+pub mod ShortLemmas

@@ -4,7 +4,7 @@ ghost use Rattle.ps_objects.specs.declared.place.Loc.{Loc};
 ghost use Rattle.ps_memory.specs.Memory.{value_at};
 ghost use Rattle.ps_memory.specs.Writes.{apply, Applicable};
 ghost use Rattle.ps_meaning.specs.Start.{start_memory};
-ghost use Rattle.vm_committed.specs.Whole.{is_here};
+ghost use Rattle.vm_mem.specs.Conditions.{is_here};
 ghost use Rattle.vm_committed.specs.Writes.{actions};
 ghost use Rattle.vm_committed.specs.Next.{IsNext};
 

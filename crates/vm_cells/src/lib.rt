@@ -3,13 +3,9 @@
 
 mod base;
 mod based;
-mod committed;
-mod mem;
-mod restore_refusal;
 #[cfg(test)]
 mod tests;
 
 pub use base::Base;
-pub use mem::Mem;
-pub use restore_refusal::RestoreRefusal;
 pub use vm_committed::{Cells, Write, Writes};
+pub use vm_mem::{Mem, RestoreRefusal};

@@ -4,8 +4,8 @@ ghost use Rattle.ps_objects.specs.declared.place.Value.TheVariants as value;
 ghost use Rattle.ps_memory.specs.Memory.{is_global, newer, value_at, is_place, is_kind, spot_of, copy_named, perform};
 ghost use Rattle.ps_memory.specs.Frame.{Allowed, IsUnused, IsNewest, later};
 ghost use Rattle.ps_memory.specs.Writes.{Applicable};
-ghost use Rattle.vm_cells.specs.Conditions.{stands};
-ghost use Rattle.vm_committed.specs.Whole.{is_here};
+ghost use Rattle.vm_mem.specs.Conditions.{stands};
+ghost use Rattle.vm_mem.specs.Conditions.{is_here};
 ghost use Rattle.vm_committed.specs.Writes.{action_of, actions};
 
 use super::*;

@@ -18,11 +18,6 @@ abbrev pub page_of : Page → spec.Page
 page_of (Here paper) = here paper
 page_of (Out width height) = out width height
 
--- no operator has the paper in its hands
-abbrev pub is_here : spec.Page → Bool
-is_here (here p) = true
-is_here (out w h) = false
-
 -- each string is a cell's that stands
 abbrev pub HaveHolders : Memory → Type 0
 HaveHolders M = (c : Cell) → get (part M c) c ≡ None → get M.strings c ≡ None

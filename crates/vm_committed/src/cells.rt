@@ -8,7 +8,8 @@ ghost use Rattle.ps_objects.specs.declared.place.Value.TheVariants as value;
 ghost use Rattle.ps_memory.specs.Memory.{is_global, newer, part, with_part, value_at, shape_of, told, in_string, page_found, here, blank, lift, is_slot, is_kind, held, byte, rand, paper, spot_of, put_content, put_byte, put_cell, do_store, store, fresh, save, restore, copy_named, older_than, perform};
 ghost use Rattle.ps_memory.specs.Frame.{Allowed};
 ghost use Rattle.vm_content.specs.Content.{slot_in};
-ghost use Rattle.vm_committed.specs.Whole.{is_here, HaveHolders};
+ghost use Rattle.vm_mem.specs.Conditions.{is_here};
+ghost use Rattle.vm_committed.specs.Whole.{HaveHolders};
 ghost use Rattle.vm_journal.specs.Part.{HaveCells, kept_from};
 
 use crate::page::Page;

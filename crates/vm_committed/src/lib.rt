@@ -4,6 +4,7 @@
 mod applying;
 mod at_start;
 mod cells;
+mod committed;
 mod copies;
 mod holds;
 mod next;

@@ -2,9 +2,10 @@
 
 ghost use Rattle.std.specs.Prelude.{None};
 
-use crate::{Cells, Mem, RestoreRefusal};
+use crate::Cells;
 use ps_objects::{Cell, Key, Loc, NoMemory, SaveName, Shape, Value};
 use ps_shapes::Paper;
+use vm_mem::{Mem, RestoreRefusal};
 
 impl Mem for Cells {
     ghost log = { λ memory. record { view = memory; track = None } };

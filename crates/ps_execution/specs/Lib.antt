@@ -1,0 +1,11 @@
+pub mod Budgets
+pub mod Frames
+pub mod Table
+pub mod Objects
+pub mod Gather
+pub mod Execution
+pub mod Section
+pub mod Machine
+pub mod Lawful
+pub mod Reached
+pub mod Laws

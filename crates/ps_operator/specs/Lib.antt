@@ -1,0 +1,10 @@
+pub mod Tree
+pub mod Standing
+pub mod Looks
+pub mod Registers
+pub mod Budgets
+pub mod Keys
+pub mod Making
+pub mod Numbers
+pub mod Lawful
+pub mod Storing
