@@ -1,0 +1,74 @@
+-- What callers see of places, of hands and of the committer, and what the calls answer.
+use Rattle.std.specs.Prelude.{◌≡◌, ℕ, ◌+◌, ◌<◌, ◌≤◌, Bool, true, false, nat_le, if◌then◌else◌, Option, Some, None}
+use Rattle.atomic_table.specs.Seated.{TableId}
+use Rattle.commit_places.specs.declared.view.Sizes.{Sizes}
+use Rattle.commit_places.specs.declared.view.Stage.TheVariants.{Drawn, Begun}
+use Rattle.commit_places.specs.declared.view.Ticket.{Ticket}
+use Rattle.commit_places.specs.declared.view.Ticket.TheVariants.{Free, Held}
+use Rattle.commit_places.specs.declared.view.Next.{Next}
+use Rattle.commit_places.specs.declared.view.Next.TheVariants.{Waiting, Taken}
+use Rattle.commit_places.specs.declared.answer.Draw.{Draw}
+use Rattle.commit_places.specs.declared.answer.Draw.TheVariants.{Page, Over}
+use Rattle.commit_places.specs.declared.answer.Ready.{Ready}
+use Rattle.commit_places.specs.declared.answer.Ready.TheVariants.{Go, Later, Stopped}
+use Rattle.commit_places.specs.Rule.{mark}
+use Rattle.commit_places.specs.Steps.{page_of}
+
+-- which places, and their sizes
+pub record PlacesId : Type 0 where
+  pub table : TableId
+  pub sizes : Sizes
+
+-- a hand: its places, the page that it drew and hasn't finished, and whether it drew that all are drawn
+pub record HandState : Type 0 where
+  pub places : PlacesId
+  pub ticket : Ticket
+  pub is_over : Bool
+
+-- the committer: its places, the count of committed pages, whether the next one is taken, whether the work is stopped, and how many hands there ever were
+pub record CommitterState : Type 0 where
+  pub places : PlacesId
+  pub count : ℕ
+  pub next : Next
+  pub is_stopped : Bool
+  pub hands : ℕ
+
+-- a hand that was just split
+abbrev pub new_hand_state : PlacesId → HandState
+new_hand_state places = record { places = places; ticket = Free; is_over = false }
+
+-- the committer of new places, which has split its own hand
+abbrev pub first_state : PlacesId → CommitterState
+first_state places = record { places = places; count = 0; next = Waiting; is_stopped = false; hands = 1 }
+
+-- the hand may draw: it has no page, and hasn't drawn that all are drawn
+abbrev pub MayDraw : HandState → Type 0
+MayDraw hand = (hand.ticket ≡ Free) × (hand.is_over ≡ false)
+
+-- the hand has a page that it hasn't begun
+abbrev pub HasDrawn : HandState → Type 0
+HasDrawn hand = hand.ticket ≡ Held Drawn (page_of hand.ticket)
+
+-- the hand has a page that it has begun
+abbrev pub HasBegun : HandState → Type 0
+HasBegun hand = hand.ticket ≡ Held Begun (page_of hand.ticket)
+
+-- the answer to a draw that found this last ticket: the next number, and over exactly where that is above the pages
+abbrev pub draw_answer : ℕ → ℕ → Draw
+draw_answer pages last = if (nat_le (last + 1) pages) then (Page (last + 1)) else Over
+
+-- the hand after this answer
+abbrev pub after_draw : HandState → Draw → HandState
+after_draw hand (Page page) = record hand { ticket = Held Drawn page }
+after_draw hand Over = record hand { is_over = true }
+
+-- the answer to a look that found this in word 1: stopped exactly at the stop value, and else go exactly where the page is near enough
+abbrev pub ready_answer : HandState → ℕ → Ready
+ready_answer hand found =
+    if (nat_le mark found) then Stopped else if (nat_le (page_of hand.ticket) (found + hand.places.sizes.ahead)) then Go else (Later found)
+
+-- the hand after this answer
+abbrev pub after_ready : HandState → Ready → HandState
+after_ready hand Go = record hand { ticket = Held Begun (page_of hand.ticket) }
+after_ready hand (Later committed) = hand
+after_ready hand Stopped = record hand { ticket = Free }

@@ -1,0 +1,162 @@
+//! The places, and the seats of those that share them.
+ghost use Rattle.std.specs.Prelude.{◌≡◌, ℕ, ◌+◌, ◌*◌, ◌^◌, ◌<◌, ◌≤◌, [], replicate, IfOk};
+ghost use Rattle.commit_places.specs.Seats.{PlacesId, HandState, CommitterState, new_hand_state, first_state, MayDraw, HasDrawn, draw_answer, after_draw, ready_answer, after_ready};
+ghost use Rattle.commit_places.specs.declared.view.Ticket.TheVariants.{Free};
+
+use crate::answer::{Draw, Ready};
+use crate::rule::{Drawing, Joining, Looking, PlacesRule, Splitting};
+use crate::view::{Sizes, View};
+use atomic_table::{Seat, Table};
+use commit_desk::PieceSpec;
+use ps_shapes::NoMemory;
+use std::alloc::Global;
+use std::marker::Model;
+
+/// The places of the pages of a job, numbered from 1. Threads share them by reference, each with a seat of its own. Contracts
+/// see which places they are, and their sizes.
+#[derive(Drop)]
+pub struct Places<T: PieceSpec> {
+    table: Table<Option<T::Piece>, View, Sizes, PlacesRule<T>, Global>,
+    sizes: Sizes,
+}
+
+impl<T: PieceSpec> Model for Places<T> {
+    ghost use Rattle.std.specs.Prelude.{◌≡◌, ◌+◌, ◌<◌};
+    ghost use Rattle.commit_places.specs.Seats.{PlacesId};
+
+    ghost Value = { PlacesId };
+
+    ghost view = { λ p. record { table = p.table.shared.table_id; sizes = p.sizes } };
+
+    ghost invariant = { λ p. (p.table.shared.key ≡ p.sizes) × (p.table.shared.table_id.words ≡ p.sizes.ahead + 2) × (p.table.shared.table_id.slots ≡ p.sizes.ahead) × (0 < p.sizes.ahead) };
+}
+
+/// The seat of one that draws pages and makes their pieces. Contracts see its state.
+#[derive(Drop)]
+pub struct Hand<C> {
+    seat: Seat<Option<C>, View>,
+    page: u32,
+}
+
+impl<C> Model for Hand<C> {
+    ghost use Rattle.std.specs.Prelude.{◌≡◌, []};
+    ghost use Rattle.commit_places.specs.Seats.{HandState};
+    ghost use Rattle.commit_places.specs.Steps.{hand_of, page_of};
+    ghost use Rattle.commit_places.specs.declared.view.View.TheVariants.{Hand as a_hand};
+
+    ghost Value = { HandState };
+
+    ghost view = { λ h. record { places = record { table = h.seat.table_id; sizes = (hand_of h.seat.me.0).sizes }; ticket = (hand_of h.seat.me.0).ticket; is_over = (hand_of h.seat.me.0).is_over } };
+
+    ghost invariant = { λ h. (h.seat.me ≡ (a_hand (hand_of h.seat.me.0), [])) × (h.page ≡ page_of (hand_of h.seat.me.0).ticket) };
+}
+
+/// The seat of the one that takes the pieces in order and tells how many pages are committed. Contracts see its state.
+#[derive(Drop)]
+pub struct Committer<C> {
+    seat: Seat<Option<C>, View>,
+}
+
+impl<C> Model for Committer<C> {
+    ghost use Rattle.std.specs.Prelude.{◌≡◌, []};
+    ghost use Rattle.commit_places.specs.Seats.{CommitterState};
+    ghost use Rattle.commit_places.specs.Steps.{committer_of};
+    ghost use Rattle.commit_places.specs.declared.view.View.TheVariants.{Committer as a_committer};
+
+    ghost Value = { CommitterState };
+
+    ghost view = { λ b. record { places = record { table = b.seat.table_id; sizes = (committer_of b.seat.me.0).sizes }; count = (committer_of b.seat.me.0).count; next = (committer_of b.seat.me.0).next; is_stopped = (committer_of b.seat.me.0).is_stopped; hands = (committer_of b.seat.me.0).hands } };
+
+    ghost invariant = { λ b. b.seat.me ≡ (a_committer (committer_of b.seat.me.0), []) };
+}
+
+impl<T: PieceSpec> Places<T> {
+    /// Places for so many pages, of which none is drawn yet, with the committer's seat and the hand of the committer's own. A page
+    /// may be begun at most `ahead` past the committed ones, and at most `workers` more hands may be split. It takes all the
+    /// memory that the other calls will need.
+    pub fn new(
+        alloc: Global,
+        pages: u32,
+        ahead: u32,
+        workers: u32,
+    ) -> Result<(Places<T>, Committer<T::Piece>, Hand<T::Piece>), NoMemory>
+        requires some_place { 1 ≤ ahead }
+        requires small { pages + workers < 2 ^ 32 }
+        ensures sizes { IfOk result (λ r. r.0.sizes ≡ record { pages = pages; ahead = ahead; workers = workers }) }
+        ensures seats { IfOk result (λ r. (r.1 ≡ first_state r.0) × (r.2 ≡ new_hand_state r.0)) }
+    {
+        let sizes = Sizes {
+            pages,
+            ahead,
+            workers,
+        };
+        let words = Vec::from_elem(alloc, 0u64, ahead as usize + 2)?;
+        let (table, mut seat) = Table::vacant(alloc, words.as_slice(), ahead as usize, &sizes)?;
+        let hand = table.shared.split_seat::<Splitting>(&mut seat);
+        let hand = Hand {
+            seat: hand,
+            page: 0,
+        };
+        Ok((Places { table, sizes }, Committer { seat }, hand))
+    }
+
+    /// Splits a hand for a worker.
+    pub fn split(&self, by: &mut Committer<T::Piece>) -> Hand<T::Piece>
+        requires places { by.old.places ≡ self.now }
+        requires some_left { by.old.hands ≤ self.now.sizes.workers }
+        ensures hand { result ≡ new_hand_state self.now }
+        ensures by { by.new ≡ record by.old { hands = by.old.hands + 1 } }
+    {
+        let seat = self.table.shared.split_seat::<Splitting>(&mut by.seat);
+        Hand { seat, page: 0 }
+    }
+
+    /// Takes a hand back.
+    pub fn join(&self, by: &mut Committer<T::Piece>, hand: Hand<T::Piece>)
+        requires places { (by.old.places ≡ self.now) × (hand.places ≡ self.now) }
+        requires free { hand.ticket ≡ Free }
+        ensures { by.new ≡ by.old }
+    {
+        let Hand { seat, page: _ } = hand;
+        self.table.shared.join_seat::<Joining>(&mut by.seat, seat);
+    }
+
+    /// Draws the next page.
+    pub fn draw(&self, hand: &mut Hand<T::Piece>) -> Draw
+        requires places { hand.old.places ≡ self.now }
+        requires free { MayDraw hand.old }
+        ensures answer { (last : ℕ) × (result ≡ draw_answer self.now.sizes.pages last) }
+        ensures hand { hand.new ≡ after_draw hand.old result }
+    {
+        let last = self
+            .table
+            .shared
+            .fetch_add::<Drawing>(&mut hand.seat, 0, 1);
+        if last >= u64::from(self.sizes.pages) {
+            return Draw::Over;
+        }
+        let page = last as u32 + 1;
+        hand.page = page;
+        Draw::Page(page)
+    }
+
+    /// Looks once whether the page of a hand may begin.
+    pub fn ready(&self, hand: &mut Hand<T::Piece>) -> Ready
+        requires places { hand.old.places ≡ self.now }
+        requires drawn { HasDrawn hand.old }
+        ensures answer { (found : ℕ) × (result ≡ ready_answer hand.old found) }
+        ensures hand { hand.new ≡ after_ready hand.old result }
+    {
+        let found = self.table.shared.load::<Looking>(&mut hand.seat, 1);
+        if found >= 1 << 32 {
+            hand.page = 0;
+            return Ready::Stopped;
+        }
+        if u64::from(hand.page) > found + u64::from(self.sizes.ahead) {
+            return Ready::Later {
+                committed: found as u32,
+            };
+        }
+        Ready::Go
+    }
+}
