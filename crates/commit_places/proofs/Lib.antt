@@ -4,3 +4,7 @@ pub mod Hands
 pub mod Drawing
 pub mod Looking
 pub mod Roster
+pub mod OnPlace
+pub mod Laying
+pub mod Taking
+pub mod Counting

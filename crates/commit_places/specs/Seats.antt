@@ -72,3 +72,15 @@ abbrev pub after_ready : HandState → Ready → HandState
 after_ready hand Go = record hand { ticket = Held Begun (page_of hand.ticket) }
 after_ready hand (Later committed) = hand
 after_ready hand Stopped = record hand { ticket = Free }
+
+-- the committer may take the page: it is the next and not taken, and the work isn't stopped
+abbrev pub MayTake : CommitterState → ℕ → Type 0
+MayTake by page = (page ≡ by.count + 1) × (page ≤ by.places.sizes.pages) × (by.next ≡ Waiting) × (by.is_stopped ≡ false)
+
+-- the committer may commit the page: it was just taken, and the work isn't stopped
+abbrev pub MayCommit : CommitterState → ℕ → Type 0
+MayCommit by page = (page ≡ by.count + 1) × (by.next ≡ Taken) × (by.is_stopped ≡ false)
+
+-- the committer after it looked for the next page's piece
+abbrev pub after_take : CommitterState → Bool → CommitterState
+after_take by found = if found then (record by { next = Taken }) else by

@@ -82,3 +82,29 @@ module _ {C : Type 0} where
 
   abbrev pub Looks : Step (Option C) → Me (Option C) View → ℕ → Me (Option C) View → Type 0
   Looks step me found after = after ≡ (on_hand (λ hand. hand_looking hand found) me.0, me.1)
+
+  -- the seat has taken the place, which was empty
+  abbrev pub Seizes : Step (Option C) → Me (Option C) View → ℕ → Me (Option C) View → Type 0
+  Seizes step me found after = after ≡ (on_hand hand_placing me.0, (step.word - 2, None) ∷ me.1)
+
+  -- the seat has given the place back with the piece
+  abbrev pub Lays : Step (Option C) → Me (Option C) View → ℕ → Me (Option C) View → Type 0
+  Lays step me found after = after ≡ (on_hand hand_finished me.0, rest me.1)
+
+  -- the committer has taken the place with the right piece of the page, where it found the page's number
+  abbrev pub Takes : (ℕ → C → Type 0) → Step (Option C) → Me (Option C) View → ℕ → Me (Option C) View → Type 0
+  Takes right step me found after =
+      MatchBool (found == step.first) ((piece : C) × right step.first piece × (after ≡ (on_committer (λ view. record view { next = Taking }) me.0, (step.word - 2, Some piece) ∷ me.1)))
+      (after ≡ me)
+
+  -- the committer has given the place back, which is empty
+  abbrev pub Clears : Step (Option C) → Me (Option C) View → ℕ → Me (Option C) View → Type 0
+  Clears step me found after = after ≡ (on_committer (λ view. record view { next = Taken }) me.0, rest me.1)
+
+  -- so many pages are committed
+  abbrev pub Commits : Step (Option C) → Me (Option C) View → ℕ → Me (Option C) View → Type 0
+  Commits step me found after = after ≡ (on_committer (λ view. record view { count = step.first; next = Waiting }) me.0, me.1)
+
+  -- the work is stopped
+  abbrev pub Stops : Step (Option C) → Me (Option C) View → ℕ → Me (Option C) View → Type 0
+  Stops step me found after = after ≡ (on_committer (λ view. record view { is_stopped = true }) me.0, me.1)

@@ -1,10 +1,15 @@
 //! The places, and the seats of those that share them.
-ghost use Rattle.std.specs.Prelude.{◌≡◌, ℕ, ◌+◌, ◌*◌, ◌^◌, ◌<◌, ◌≤◌, [], replicate, IfOk};
-ghost use Rattle.commit_places.specs.Seats.{PlacesId, HandState, CommitterState, new_hand_state, first_state, MayDraw, HasDrawn, draw_answer, after_draw, ready_answer, after_ready};
+ghost use Rattle.std.specs.Prelude.{◌≡◌, ℕ, ◌+◌, ◌*◌, ◌^◌, ◌<◌, ◌≤◌, ◌==◌, true, is_some, IfOk, IfSome};
+ghost use Rattle.commit_places.specs.Seats.{PlacesId, HandState, CommitterState, new_hand_state, first_state, MayDraw, HasDrawn, HasBegun, MayTake, MayCommit, draw_answer, after_draw, ready_answer, after_ready, after_take};
+ghost use Rattle.commit_places.specs.Rule.{place_of};
+ghost use Rattle.commit_places.specs.Steps.{page_of};
 ghost use Rattle.commit_places.specs.declared.view.Ticket.TheVariants.{Free};
+ghost use Rattle.commit_places.specs.declared.view.Next.TheVariants.{Waiting};
 
 use crate::answer::{Draw, Ready};
-use crate::rule::{Drawing, Joining, Looking, PlacesRule, Splitting};
+use crate::rule::{
+    Clearing, Committing, Drawing, Joining, Laying, Looking, PlacesRule, Seizing, Splitting, Stopping, Taking,
+};
 use crate::view::{Sizes, View};
 use atomic_table::{Seat, Table};
 use commit_desk::PieceSpec;
@@ -158,5 +163,70 @@ impl<T: PieceSpec> Places<T> {
             };
         }
         Ready::Go
+    }
+
+    /// Lays down the piece of the page that the hand has begun. The page's place is empty, so nothing comes back.
+    pub fn finish(&self, hand: &mut Hand<T::Piece>, piece: T::Piece)
+        requires places { hand.old.places ≡ self.now }
+        requires begun { HasBegun hand.old }
+        requires right { T.right (page_of hand.old.ticket) piece }
+        ensures { hand.new ≡ record hand.old { ticket = Free } }
+    {
+        let page = hand.page;
+        let place = self.place_of(page);
+        let shared = &self.table.shared;
+        shared.swap::<Seizing>(&mut hand.seat, place + 2, 1 << 32);
+        let before = shared.exchange(&mut hand.seat, place, Some(piece));
+        let None = before else { unreachable!() };
+        shared.swap::<Laying>(&mut hand.seat, place + 2, u64::from(page));
+        hand.page = 0;
+    }
+
+    /// Takes the piece of the page after the committed ones, where it lies in its place. It is right for the page.
+    pub fn take(&self, by: &mut Committer<T::Piece>, page: u32) -> Option<T::Piece>
+        requires places { by.old.places ≡ self.now }
+        requires next { MayTake by.old page }
+        ensures answer { (found : ℕ) × (is_some result ≡ (found == page)) }
+        ensures right { IfSome result (T.right page) }
+        ensures by { by.new ≡ after_take by.old (is_some result) }
+    {
+        let place = self.place_of(page);
+        let shared = &self.table.shared;
+        let number = u64::from(page);
+        let found = shared.compare_exchange::<Taking<T>>(&mut by.seat, place + 2, number, 1 << 32);
+        if found != number {
+            return None;
+        }
+        let piece = shared.exchange(&mut by.seat, place, None);
+        shared.swap::<Clearing>(&mut by.seat, place + 2, 0);
+        piece
+    }
+
+    /// Tells that so many pages are committed: the page that was just taken is the last of them.
+    pub fn done(&self, by: &mut Committer<T::Piece>, count: u32)
+        requires places { by.old.places ≡ self.now }
+        requires taken { MayCommit by.old count }
+        ensures { by.new ≡ record by.old { count = count; next = Waiting } }
+    {
+        self.table
+            .shared
+            .fetch_max::<Committing>(&mut by.seat, 1, u64::from(count));
+    }
+
+    /// Stops the work: no page that isn't begun yet will be.
+    pub fn stop(&self, by: &mut Committer<T::Piece>)
+        requires { by.old.places ≡ self.now }
+        ensures { by.new ≡ record by.old { is_stopped = true } }
+    {
+        self.table
+            .shared
+            .fetch_max::<Stopping>(&mut by.seat, 1, 1 << 32);
+    }
+
+    // The place to which a page belongs.
+    fn place_of(&self, page: u32) -> usize
+        ensures { result ≡ place_of self.now.sizes.ahead page }
+    {
+        (page.saturating_sub(1) % self.sizes.ahead) as usize
     }
 }

@@ -61,3 +61,59 @@ impl<C> Play<Option<C>, View> for Looking {
 
     ghost then = { Looks };
 }
+
+// A hand takes the place of its page.
+pub(crate) struct Seizing;
+
+impl<C> Play<Option<C>, View> for Seizing {
+    ghost use Rattle.commit_places.specs.Steps.{Seizes};
+
+    ghost then = { Seizes };
+}
+
+// A hand gives the place back, with the piece in it.
+pub(crate) struct Laying;
+
+impl<C> Play<Option<C>, View> for Laying {
+    ghost use Rattle.commit_places.specs.Steps.{Lays};
+
+    ghost then = { Lays };
+}
+
+// The committer takes the place of the next page, where the piece lies there.
+pub(crate) struct Taking<T: PieceSpec> {
+    task: PhantomData<T>,
+}
+
+impl<T: PieceSpec> Play<Option<T::Piece>, View> for Taking<T> {
+    ghost use Rattle.commit_places.specs.Steps.{Takes};
+
+    ghost then = { Takes T.right };
+}
+
+// The committer gives the place back, empty.
+pub(crate) struct Clearing;
+
+impl<C> Play<Option<C>, View> for Clearing {
+    ghost use Rattle.commit_places.specs.Steps.{Clears};
+
+    ghost then = { Clears };
+}
+
+// The committer raises the count.
+pub(crate) struct Committing;
+
+impl<C> Play<Option<C>, View> for Committing {
+    ghost use Rattle.commit_places.specs.Steps.{Commits};
+
+    ghost then = { Commits };
+}
+
+// The committer stops the work.
+pub(crate) struct Stopping;
+
+impl<C> Play<Option<C>, View> for Stopping {
+    ghost use Rattle.commit_places.specs.Steps.{Stops};
+
+    ghost then = { Stops };
+}
