@@ -10,3 +10,6 @@ mod view;
 pub use answer::{Draw, Ready};
 pub use places::{Committer, Hand, Places};
 pub use view::{CommitterView, HandView, Next, Sizes, Stage, Ticket, View};
+
+#[cfg(test)]
+mod tests;
