@@ -1,12 +1,11 @@
 -- Lists of views, tickets in them, and functions from pages that differ at one.
-use Rattle.std.proofs.Common.{◌≡◌, ◌≢◌, ℕ, suc, zero, ◌+◌, ◌-◌, ◌<◌, ◌≤◌, ◌==◌, List, [], ◌∷◌, length, get_or, set, Bool, true, false, cond, nat_le, refl, sym, ap, ◌∙◌, subst, sum_by, arith, get_or-set_same, get_or-set_other}
+use Rattle.std.proofs.Common.{◌≡◌, ◌≢◌, ℕ, suc, zero, ◌+◌, ◌-◌, ◌<◌, ◌≤◌, ◌==◌, List, [], ◌∷◌, length, get_or, set, Bool, true, false, cond, nat_le, refl, sym, ap, ◌∙◌, sum_by, arith, get_or-set_same, get_or-set_other}
 use mathlib.Core.Option.{some, some-injective, some-ne-none}
 use lib.ListN.{get_elem?}
 use Rattle.std.proofs.lemmas.List.Sums.{sum_by-set}
 use Rattle.std.proofs.lemmas.Bool.Decides.{nat_tests}
 use Rattle.atomic_table.proofs.Lists.{one_turn}
 use Rattle.commit_places.specs.declared.view.Stage.{Stage}
-use Rattle.commit_places.specs.declared.view.Ticket.{Ticket}
 use Rattle.commit_places.specs.declared.view.Ticket.TheVariants.{Free, Held}
 use Rattle.commit_places.specs.declared.view.View.{View}
 use Rattle.commit_places.specs.declared.view.View.TheVariants.{Joined}

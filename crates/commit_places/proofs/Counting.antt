@@ -1,23 +1,20 @@
 -- The count rises, and the work is stopped: both keep the rule.
-use Rattle.std.proofs.Common.{◌≡◌, ◌≢◌, ℕ, ◌+◌, ◌-◌, ◌%◌, ◌^◌, ◌<◌, ◌≤◌, ◌⊎◌, inl, inr, List, [], ◌∷◌, length, get_or, set, Bool, true, false, max, refl, sym, ap, ◌∙◌, subst, arith, length-set, get_or-set_same, get_or-set_other, ⊎_elim}
-use Rattle.std.specs.Prelude.{Option, Some, None, if◌then◌else◌}
+use Rattle.std.proofs.Common.{◌≡◌, ℕ, ◌+◌, ◌<◌, ◌≤◌, inl, inr, List, get_or, set, Bool, true, false, max, refl, sym, ap, ◌∙◌, subst, arith, length-set, get_or-set_same, get_or-set_other, ⊎_elim}
+use Rattle.std.specs.Prelude.{Option, if◌then◌else◌}
 use mathlib.Core.Option.{some, none}
-use mathlib.Core.Option as maybe
 use lib.ListN.{get_elem?}
-use Rattle.atomic_table.specs.Table.{State, Me, Step, step, Act, keeps, stepped, Allows}
+use Rattle.atomic_table.specs.Table.{State, step, keeps, Allows}
 use Rattle.atomic_table.proofs.Lists.{at_set, set_here}
 use Rattle.commit_places.specs.declared.view.Sizes.{Sizes}
-use Rattle.commit_places.specs.declared.view.Stage.{Stage}
 use Rattle.commit_places.specs.declared.view.Stage.TheVariants.{Drawn, Begun, Placing}
 use Rattle.commit_places.specs.declared.view.Next.{Next}
-use Rattle.commit_places.specs.declared.view.Next.TheVariants.{Waiting, Taking, Taken}
+use Rattle.commit_places.specs.declared.view.Next.TheVariants.{Waiting, Taken}
 use Rattle.commit_places.specs.declared.view.CommitterView.{CommitterView}
 use Rattle.commit_places.specs.declared.view.View.{View}
-use Rattle.commit_places.specs.declared.view.View.TheVariants.{Committer, Hand, Joined}
-use Rattle.commit_places.specs.Rule.{Status, undrawn, held, lying, taking, gone, lost, mark, place_of, HasPlace, ticket_of, ticket_at, hands_of, overs_of, Fits, PlaceFits, NextFits, Kept}
+use Rattle.commit_places.specs.declared.view.View.TheVariants.{Committer, Joined}
+use Rattle.commit_places.specs.Rule.{Status, undrawn, held, lying, taking, gone, lost, mark, place_of, hands_of, overs_of, Fits, NextFits, Kept}
 use Rattle.commit_places.specs.Steps.{Commits, Stops}
 use Rattle.commit_places.proofs.Basics.{by_eq, got, sum_put, tickets_stay}
-use Rattle.commit_places.proofs.Frame.{F}
 use Rattle.commit_places.proofs.Roster.{committer_is}
 
 module _ {C : Type 0} (right : ℕ → C → Type 0) (sizes : Sizes) (s : State (Option C) View) (k : Kept right sizes s) (b : CommitterView) (is : k.committer ≡ b)
@@ -133,10 +130,13 @@ commit_goes {C} right sizes slots id b c p next_one done runs s k wide at small 
     let at0 : get_elem? s.views 0 ≡ some (Committer b) = ap (λ (j : ℕ). get_elem? s.views j) (sym it.0) ∙ at in
     let word : n ≡ b.count = word_is right sizes s k b it.1 ∙ ap (λ (t : Bool). if t then mark else b.count) runs in
     let m : ℕ = max n p in
-    let top : m ≡ b.count + 1 = max_is n p (omega arith) ∙ next_one in
-    (Committer (record b { count = p; next = Waiting }), keeps, tt,
+    let top : m ≡ b.count + 1 = max_is n p (omega arith) ∙ next_one in (
+      Committer (record b { count = p; next = Waiting }),
+      keeps,
+      tt,
       subst (λ (t : ℕ × ℕ). Kept right sizes (record { words = set s.words 1 m; homes = s.homes; views = set s.views t.0 (Committer (record b { count = t.1; next = Waiting })) })) (λ j. (sym it.0 j, sym next_one j)) (committed right sizes s k b it.1 at0 m done runs top),
-      refl)
+      refl,
+    )
 
 -- the work may be stopped at any moment
 pub stop_goes : {C : Type 0} (right : ℕ → C → Type 0) (sizes : Sizes) (slots id : ℕ) (b : CommitterView) (c : List (ℕ × Option C))
@@ -148,7 +148,10 @@ stop_goes {C} right sizes slots id b c s k wide at small =
     let low : (t : Bool) → b.is_stopped ≡ t → n ≤ mark = elim [
       | true ↦ λ e. (let w : n ≡ mark = word_is right sizes s k b it.1 ∙ ap (λ (t : Bool). if t then mark else b.count) e in omega arith)
       | false ↦ λ e. (let w : n ≡ b.count = word_is right sizes s k b it.1 ∙ ap (λ (t : Bool). if t then mark else b.count) e in let f = counts_fit right sizes s k b it.1 at0 0 in let l = k.small in omega arith)
-    ] in
-    (Committer (record b { is_stopped = true }), keeps, tt,
+    ] in (
+      Committer (record b { is_stopped = true }),
+      keeps,
+      tt,
       subst (λ (j : ℕ). Kept right sizes (record { words = set s.words 1 (max n mark); homes = s.homes; views = set s.views j (Committer (record b { is_stopped = true })) })) (sym it.0) (stopped right sizes s k b it.1 at0 (max n mark) (max_is n mark (low b.is_stopped refl))),
-      refl)
+      refl,
+    )

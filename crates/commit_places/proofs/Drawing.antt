@@ -1,20 +1,20 @@
 -- A draw keeps the rule.
-use Rattle.std.proofs.Common.{◌≡◌, ◌≢◌, ℕ, ◌+◌, ◌-◌, ◌%◌, ◌^◌, ◌<◌, ◌≤◌, ◌⊎◌, inl, inr, List, length, get_or, set, Bool, true, false, nat_le, refl, sym, ap, ◌∙◌, subst, arith, length-set, get_or-set_same, get_or-set_other, mod-eq_of_lt, ⊎_elim}
-use Rattle.std.specs.Prelude.{Option, Some, None, if◌then◌else◌}
+use Rattle.std.proofs.Common.{◌≡◌, ◌≢◌, ℕ, ◌+◌, ◌-◌, ◌%◌, ◌^◌, ◌<◌, ◌≤◌, inl, inr, List, get_or, set, Bool, true, false, nat_le, refl, sym, ap, ◌∙◌, subst, arith, length-set, get_or-set_same, get_or-set_other, mod-eq_of_lt, ⊎_elim}
+use Rattle.std.specs.Prelude.{Option, if◌then◌else◌}
 use mathlib.Core.Option.{some, none}
 use lib.ListN.{get_elem?}
-use Rattle.atomic_table.specs.Table.{State, Me, Step, step, Act, keeps, stepped, Valid, carried_after, homes_after, Allows}
+use Rattle.atomic_table.specs.Table.{State, step, Act, keeps, stepped, Valid, carried_after, Allows}
 use Rattle.commit_places.specs.declared.view.Sizes.{Sizes}
 use Rattle.commit_places.specs.declared.view.Stage.{Stage}
-use Rattle.commit_places.specs.declared.view.Stage.TheVariants.{Drawn, Begun, Placing}
+use Rattle.commit_places.specs.declared.view.Stage.TheVariants.{Drawn}
 use Rattle.commit_places.specs.declared.view.Ticket.TheVariants.{Free, Held}
 use Rattle.commit_places.specs.declared.view.HandView.{HandView}
 use Rattle.commit_places.specs.declared.view.View.{View}
-use Rattle.commit_places.specs.declared.view.View.TheVariants.{Committer, Hand, Joined}
-use Rattle.commit_places.specs.Rule.{Status, undrawn, held, lying, taking, gone, lost, place_of, HasPlace, ticket_of, overs_of, Fits, Kept}
-use Rattle.commit_places.specs.Steps.{on_hand, hand_drawing, Draws}
+use Rattle.commit_places.specs.declared.view.View.TheVariants.{Hand}
+use Rattle.commit_places.specs.Rule.{Status, undrawn, held, place_of, HasPlace, overs_of, Kept}
+use Rattle.commit_places.specs.Steps.{Draws}
 use Rattle.commit_places.proofs.Basics.{le_is, gt_is, no_ticket}
-use Rattle.commit_places.proofs.Frame.{F, new, new_here, new_else, Turn, turned}
+use Rattle.commit_places.proofs.Frame.{F, new, new_else, turned}
 use Rattle.commit_places.proofs.Hands.{not_committer, small_ticket, first_stays, fresh, next_kept}
 
 undrawn_held : (j : ℕ) (g : Stage) → undrawn ≡ held j g → ⊥

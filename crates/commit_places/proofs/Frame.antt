@@ -1,23 +1,21 @@
 -- One frame for each step that changes the status of one page and the view of one seat: all else stays.
-use Rattle.std.proofs.Common.{◌≡◌, ◌≢◌, ℕ, ◌+◌, ◌-◌, ◌%◌, ◌^◌, ◌<◌, ◌≤◌, ◌⊎◌, inl, inr, List, [], ◌∷◌, length, get_or, set, Bool, true, false, refl, sym, ap, ◌∙◌, subst, sum_by, arith, ⊎_elim}
-use Rattle.std.specs.Prelude.{Option, Some, None}
+use Rattle.std.proofs.Common.{◌≡◌, ◌≢◌, ℕ, ◌+◌, ◌-◌, ◌<◌, ◌≤◌, ◌⊎◌, inl, inr, List, length, get_or, set, refl, sym, ap, ◌∙◌, subst, arith, ⊎_elim}
+use Rattle.std.specs.Prelude.{Option}
 use mathlib.Core.Option.{some, none}
 use mathlib.Core.Option as maybe
 use lib.ListN.{get_elem?}
 use Rattle.atomic_table.specs.Table.{State}
-use Rattle.atomic_table.proofs.Lists.{at_set, set_here}
+use Rattle.atomic_table.proofs.Lists.{at_set}
 use Rattle.commit_places.specs.declared.view.Sizes.{Sizes}
 use Rattle.commit_places.specs.declared.view.Stage.{Stage}
 use Rattle.commit_places.specs.declared.view.Stage.TheVariants.{Drawn, Begun, Placing}
-use Rattle.commit_places.specs.declared.view.Ticket.{Ticket}
-use Rattle.commit_places.specs.declared.view.Ticket.TheVariants.{Free, Held}
+use Rattle.commit_places.specs.declared.view.Ticket.TheVariants.{Held}
 use Rattle.commit_places.specs.declared.view.Next.{Next}
-use Rattle.commit_places.specs.declared.view.Next.TheVariants.{Waiting, Taking, Taken}
 use Rattle.commit_places.specs.declared.view.CommitterView.{CommitterView}
 use Rattle.commit_places.specs.declared.view.View.{View}
-use Rattle.commit_places.specs.declared.view.View.TheVariants.{Committer, Hand, Joined}
-use Rattle.commit_places.specs.Rule.{Status, undrawn, held, lying, taking, gone, lost, mark, place_of, HasPlace, ticket_of, ticket_at, hands_of, overs_of, Fits, PlaceFits, NextFits, Kept}
-use Rattle.commit_places.proofs.Basics.{by_eq, put, put_here, put_else, got, sum_put, ticket_now, ticket_here, ticket_else}
+use Rattle.commit_places.specs.declared.view.View.TheVariants.{Committer}
+use Rattle.commit_places.specs.Rule.{Status, undrawn, held, lying, taking, gone, lost, place_of, HasPlace, ticket_of, ticket_at, hands_of, overs_of, Fits, PlaceFits, NextFits, Kept}
+use Rattle.commit_places.proofs.Basics.{by_eq, put, put_here, put_else, sum_put, ticket_now, ticket_here, ticket_else}
 
 module _ {C : Type 0} (right : ℕ → C → Type 0) (sizes : Sizes) (s : State (Option C) View) (k : Kept right sizes s) where
   abbrev pub Slots : Type 0

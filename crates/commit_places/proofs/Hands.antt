@@ -1,5 +1,5 @@
 -- What the rule says to a hand that steps.
-use Rattle.std.proofs.Common.{◌≡◌, ◌≢◌, ℕ, ◌+◌, ◌*◌, ◌^◌, ◌<◌, ◌≤◌, ◌⊎◌, inl, inr, List, length, get_or, set, Bool, true, false, cond, refl, sym, ap, ◌∙◌, subst, sum_by, arith}
+use Rattle.std.proofs.Common.{◌≡◌, ◌≢◌, ℕ, ◌^◌, ◌<◌, ◌≤◌, get_or, set, Bool, true, false, refl, sym, ap, ◌∙◌, arith}
 use Rattle.std.specs.Prelude.{Option, if◌then◌else◌}
 use mathlib.Core.Option.{some, some-injective}
 use lib.ListN.{get_elem?}
@@ -7,7 +7,6 @@ use Rattle.std.proofs.lemmas.List.Sums.{sum_by-le-sum_by}
 use Rattle.atomic_table.specs.Table.{State}
 use Rattle.atomic_table.proofs.Lists.{set_else}
 use Rattle.commit_places.specs.declared.view.Sizes.{Sizes}
-use Rattle.commit_places.specs.declared.view.Stage.{Stage}
 use Rattle.commit_places.specs.declared.view.Stage.TheVariants.{Drawn, Begun, Placing}
 use Rattle.commit_places.specs.declared.view.Next.{Next}
 use Rattle.commit_places.specs.declared.view.Next.TheVariants.{Waiting, Taking, Taken}
@@ -15,7 +14,7 @@ use Rattle.commit_places.specs.declared.view.HandView.{HandView}
 use Rattle.commit_places.specs.declared.view.CommitterView.{CommitterView}
 use Rattle.commit_places.specs.declared.view.View.{View}
 use Rattle.commit_places.specs.declared.view.View.TheVariants.{Committer, Hand, Joined}
-use Rattle.commit_places.specs.Rule.{Status, undrawn, held, lying, taking, gone, lost, HasPlace, hands_of, overs_of, Fits, NextFits, Kept}
+use Rattle.commit_places.specs.Rule.{Status, undrawn, held, lying, taking, gone, lost, hands_of, overs_of, NextFits, Kept}
 use Rattle.commit_places.proofs.Frame.{F}
 
 -- a seat stands for as many hands at least as drew that all pages are drawn

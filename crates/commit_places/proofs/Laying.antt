@@ -1,23 +1,23 @@
 -- The two steps of a finish keep the rule: the hand takes the place of its page, and gives it back with the piece.
-use Rattle.std.proofs.Common.{◌≡◌, ◌≢◌, ℕ, ◌+◌, ◌-◌, ◌%◌, ◌^◌, ◌<◌, ◌≤◌, ◌⊎◌, inl, inr, List, [], ◌∷◌, length, get_or, set, refl, sym, ap, ◌∙◌, subst, arith, mod-lt, ⊎_elim}
+use Rattle.std.proofs.Common.{◌≡◌, ℕ, ◌+◌, ◌-◌, inl, inr, List, ◌∷◌, set, refl, sym, ap, ◌∙◌, subst, arith, mod-lt, ⊎_elim}
 use Rattle.std.specs.Prelude.{Option, Some, None}
 use mathlib.Core.Option.{some, none}
 use mathlib.Core.Option as maybe
 use lib.ListN.{get_elem?}
-use Rattle.atomic_table.specs.Table.{State, Me, Step, step, Act, takes, gives, rest, Allows, put_back, homes_after}
+use Rattle.atomic_table.specs.Table.{State, step, takes, gives, Allows}
 use Rattle.commit_places.specs.declared.view.Sizes.{Sizes}
 use Rattle.commit_places.specs.declared.view.Stage.{Stage}
-use Rattle.commit_places.specs.declared.view.Stage.TheVariants.{Drawn, Begun, Placing}
+use Rattle.commit_places.specs.declared.view.Stage.TheVariants.{Begun, Placing}
 use Rattle.commit_places.specs.declared.view.Ticket.TheVariants.{Free, Held}
 use Rattle.commit_places.specs.declared.view.HandView.{HandView}
 use Rattle.commit_places.specs.declared.view.View.{View}
-use Rattle.commit_places.specs.declared.view.View.TheVariants.{Committer, Hand, Joined}
-use Rattle.commit_places.specs.Rule.{Status, undrawn, held, lying, taking, gone, lost, mark, place_of, HasPlace, ticket_of, Kept}
+use Rattle.commit_places.specs.declared.view.View.TheVariants.{Hand}
+use Rattle.commit_places.specs.Rule.{Status, held, lying, mark, place_of, HasPlace, Kept}
 use Rattle.commit_places.specs.Steps.{page_of, Seizes, Lays}
 use Rattle.commit_places.proofs.Basics.{no_ticket, ticket_now, same_page}
 use Rattle.commit_places.proofs.Frame.{F, new_else}
 use Rattle.commit_places.proofs.Hands.{not_committer, first_stays, next_kept}
-use Rattle.commit_places.proofs.OnPlace.{reach, Words, Homes, last_same, word_here, home_here, placed}
+use Rattle.commit_places.proofs.OnPlace.{reach, last_same, word_here, home_here, placed}
 
 module _ {C : Type 0} (right : ℕ → C → Type 0) (sizes : Sizes) (s : State (Option C) View) (k : Kept right sizes s)
     (id : ℕ) (h : HandView) (at : get_elem? s.views id ≡ some (Hand h)) (p : ℕ) where
@@ -41,7 +41,7 @@ module _ {C : Type 0} (right : ℕ → C → Type 0) (sizes : Sizes) (s : State 
     empty : get_elem? s.homes I ≡ some (some None)
     empty = ⊎_elim (λ e. e.1)
         (λ g. let r = reach right sizes s k g.0 (k.status g.0) g.2 (k.each_page g.0) in let m = fits in
-            absurd (subst HasPlace (ap k.status (same_page sizes.ahead k.committer.count g.0 p r.0 r.1 m.1.0 m.1.1 g.1) ∙ is_begun) g.2))
+        absurd (subst HasPlace (ap k.status (same_page sizes.ahead k.committer.count g.0 p r.0 r.1 m.1.0 m.1.1 g.1) ∙ is_begun) g.2))
         (k.each_place I (mod-lt (p - 1) k.some_place))
 
     abbrev W : HandView
@@ -50,8 +50,11 @@ module _ {C : Type 0} (right : ℕ → C → Type 0) (sizes : Sizes) (s : State 
     seized : Kept right sizes (record { words = set s.words (I + 2) mark; homes = set s.homes I none; views = set s.views id (Hand W) })
     seized = let m = fits in let a = m.0.0 in
         placed right sizes s k p m.1.0 m.1.1 (held id Placing) id (Hand h) (Hand W) at k.committer.next mark none (record {
-          page_fits = ((omega (arith, last_same right sizes s k p m.1.0 m.1.1 (held id Placing) id (Hand h) (Hand W) at k.committer.next mark none), m.0.1), m.1,
-            (word_here right sizes s k p m.1.0 m.1.1 (held id Placing) id (Hand h) (Hand W) at k.committer.next mark none, home_here right sizes s k p m.1.0 m.1.1 (held id Placing) id (Hand h) (Hand W) at k.committer.next mark none));
+          page_fits = (
+            (omega (arith, last_same right sizes s k p m.1.0 m.1.1 (held id Placing) id (Hand h) (Hand W) at k.committer.next mark none), m.0.1),
+            m.1,
+            (word_here right sizes s k p m.1.0 m.1.1 (held id Placing) id (Hand h) (Hand W) at k.committer.next mark none, home_here right sizes s k p m.1.0 m.1.1 (held id Placing) id (Hand h) (Hand W) at k.committer.next mark none),
+          );
           filled = inl tt;
           next_stays = inr refl;
           next_page = next_kept k.status _ p (k.committer.count + 1) (new_else right sizes s k p (held id Placing) id (Hand h) (Hand W) at k.committer.next (set s.words (I + 2) mark) (set s.homes I none)) (λ e. let u = is_begun in cc) (λ e. let u = is_begun in cc) k.committer.next k.next_page;
@@ -81,8 +84,11 @@ module _ {C : Type 0} (right : ℕ → C → Type 0) (sizes : Sizes) (s : State 
     laid : Kept right sizes (record { words = set s.words (I + 2) p; homes = set s.homes I home; views = set s.views id (Hand V) })
     laid = let m = held_fits in let a = m.0.0 in
         placed right sizes s k p m.1.0 m.1.1 lying id (Hand h) (Hand V) at k.committer.next p home (record {
-          page_fits = ((omega (arith, last_same right sizes s k p m.1.0 m.1.1 lying id (Hand h) (Hand V) at k.committer.next p home), m.0.1), m.1,
-            (piece, good, (word_here right sizes s k p m.1.0 m.1.1 lying id (Hand h) (Hand V) at k.committer.next p home, home_here right sizes s k p m.1.0 m.1.1 lying id (Hand h) (Hand V) at k.committer.next p home)));
+          page_fits = (
+            (omega (arith, last_same right sizes s k p m.1.0 m.1.1 lying id (Hand h) (Hand V) at k.committer.next p home), m.0.1),
+            m.1,
+            (piece, good, (word_here right sizes s k p m.1.0 m.1.1 lying id (Hand h) (Hand V) at k.committer.next p home, home_here right sizes s k p m.1.0 m.1.1 lying id (Hand h) (Hand V) at k.committer.next p home)),
+          );
           filled = inl tt;
           next_stays = inr refl;
           next_page = next_kept k.status _ p (k.committer.count + 1) (new_else right sizes s k p lying id (Hand h) (Hand V) at k.committer.next (set s.words (I + 2) p) (set s.homes I home)) (λ e. let u = is_placing in cc) (λ e. let u = is_placing in cc) k.committer.next k.next_page;

@@ -8,3 +8,4 @@ pub mod OnPlace
 pub mod Laying
 pub mod Taking
 pub mod Counting
+pub mod Promise

@@ -1,22 +1,22 @@
 -- A look at the count keeps the rule.
-use Rattle.std.proofs.Common.{◌≡◌, ◌≢◌, ℕ, ◌+◌, ◌%◌, ◌^◌, ◌<◌, ◌≤◌, ◌⊎◌, inl, inr, List, length, get_or, set, Bool, true, false, nat_le, refl, sym, ap, ◌∙◌, subst, arith, ⊎_elim}
-use Rattle.std.specs.Prelude.{Option, Some, None, if◌then◌else◌}
+use Rattle.std.proofs.Common.{◌≡◌, ◌≢◌, ℕ, ◌+◌, ◌<◌, ◌≤◌, inl, inr, List, get_or, set, Bool, true, false, nat_le, refl, sym, ap, ◌∙◌, subst, arith, ⊎_elim}
+use Rattle.std.specs.Prelude.{Option, if◌then◌else◌}
 use mathlib.Core.Option.{some, none}
 use lib.ListN.{get_elem?}
 use Rattle.std.proofs.lemmas.List.{set-get_or}
-use Rattle.atomic_table.specs.Table.{State, Me, Step, step, Act, keeps, stepped, Valid, carried_after, homes_after, Allows}
+use Rattle.atomic_table.specs.Table.{State, step, Act, keeps, Valid, carried_after, homes_after, Allows}
 use Rattle.atomic_table.proofs.Lists.{set_again}
 use Rattle.commit_places.specs.declared.view.Sizes.{Sizes}
 use Rattle.commit_places.specs.declared.view.Stage.{Stage}
-use Rattle.commit_places.specs.declared.view.Stage.TheVariants.{Drawn, Begun, Placing}
+use Rattle.commit_places.specs.declared.view.Stage.TheVariants.{Drawn, Begun}
 use Rattle.commit_places.specs.declared.view.Ticket.TheVariants.{Free, Held}
 use Rattle.commit_places.specs.declared.view.HandView.{HandView}
 use Rattle.commit_places.specs.declared.view.View.{View}
-use Rattle.commit_places.specs.declared.view.View.TheVariants.{Committer, Hand, Joined}
-use Rattle.commit_places.specs.Rule.{Status, undrawn, held, lying, taking, gone, lost, mark, place_of, HasPlace, ticket_of, overs_of, Fits, Kept}
-use Rattle.commit_places.specs.Steps.{page_of, hand_looking, Looks}
-use Rattle.commit_places.proofs.Basics.{le_is, gt_is, no_ticket, got, ticket_now}
-use Rattle.commit_places.proofs.Frame.{F, new, new_here, new_else, Turn, turned}
+use Rattle.commit_places.specs.declared.view.View.TheVariants.{Hand}
+use Rattle.commit_places.specs.Rule.{Status, held, lost, mark, HasPlace, overs_of, Kept}
+use Rattle.commit_places.specs.Steps.{page_of, Looks}
+use Rattle.commit_places.proofs.Basics.{le_is, gt_is, no_ticket, ticket_now}
+use Rattle.commit_places.proofs.Frame.{F, new, new_else, turned}
 use Rattle.commit_places.proofs.Hands.{not_committer, first_stays, next_kept}
 
 module _ {C : Type 0} (right : ℕ → C → Type 0) (sizes : Sizes) (s : State (Option C) View) (k : Kept right sizes s)

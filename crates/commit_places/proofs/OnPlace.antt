@@ -1,6 +1,6 @@
 -- One frame for the steps on the word of a page's place: the place, the page and the seat change, and all else stays.
-use Rattle.std.proofs.Common.{◌≡◌, ◌≢◌, ℕ, ◌+◌, ◌-◌, ◌%◌, ◌^◌, ◌<◌, ◌≤◌, ◌⊎◌, inl, inr, List, length, get_or, set, refl, sym, ap, ◌∙◌, subst, arith, length-set, get_or-set_same, get_or-set_other, mod-lt, ⊎_elim}
-use Rattle.std.specs.Prelude.{Option, Some, None}
+use Rattle.std.proofs.Common.{◌≡◌, ◌≢◌, ℕ, ◌+◌, ◌-◌, ◌<◌, ◌≤◌, ◌⊎◌, inl, inr, List, get_or, set, sym, ap, ◌∙◌, subst, arith, length-set, get_or-set_same, get_or-set_other, mod-lt, ⊎_elim}
+use Rattle.std.specs.Prelude.{Option, None}
 use mathlib.Core.Option.{some, none}
 use mathlib.Core.Option as maybe
 use lib.ListN.{get_elem?}
@@ -16,7 +16,7 @@ use Rattle.commit_places.specs.declared.view.View.{View}
 use Rattle.commit_places.specs.declared.view.View.TheVariants.{Committer}
 use Rattle.commit_places.specs.Rule.{Status, undrawn, held, lying, taking, gone, lost, place_of, HasPlace, ticket_of, hands_of, overs_of, PlaceFits, NextFits, Kept}
 use Rattle.commit_places.proofs.Basics.{by_eq, same_page}
-use Rattle.commit_places.proofs.Frame.{F, Lead, new, new_here, new_else, Turn, turned}
+use Rattle.commit_places.proofs.Frame.{F, Lead, new, new_here, new_else, turned}
 
 module _ {C : Type 0} (right : ℕ → C → Type 0) (sizes : Sizes) (s : State (Option C) View) (k : Kept right sizes s) where
   -- a page that has a place is in reach
@@ -82,9 +82,9 @@ module _ {C : Type 0} (right : ℕ → C → Type 0) (sizes : Sizes) (s : State 
       place_fits : (i : ℕ) → i < sizes.ahead → PlaceFits right sizes k.committer.count next k.committer.is_stopped Words Homes St i
       place_fits i lt = by_eq i I (PlaceFits right sizes k.committer.count next k.committer.is_stopped Words Homes St i)
           (λ e. ⊎_elim (λ has. inr (p, sym e, subst HasPlace (sym (new_here right sizes s k p x id v w at next Words Homes)) has))
-              (λ f. inl (ap (λ (y : ℕ). get_or Words (y + 2) 0) e ∙ word_here ∙ f.0, ap (λ (y : ℕ). get_elem? Homes y) e ∙ home_here ∙ ap some f.1)) o.filled)
+          (λ f. inl (ap (λ (y : ℕ). get_or Words (y + 2) 0) e ∙ word_here ∙ f.0, ap (λ (y : ℕ). get_elem? Homes y) e ∙ home_here ∙ ap some f.1)) o.filled)
           (λ ne. ⊎_elim (λ f. inl (word_same i ne ∙ f.0, set_else s.homes I i home ne ∙ f.1))
-              (λ g. inr (g.0, g.1, subst HasPlace (sym (new_else right sizes s k p x id v w at next Words Homes g.0 (λ e. ne (sym g.1 ∙ ap (place_of sizes.ahead) e)))) g.2)) (k.each_place i lt))
+          (λ g. inr (g.0, g.1, subst HasPlace (sym (new_else right sizes s k p x id v w at next Words Homes g.0 (λ e. ne (sym g.1 ∙ ap (place_of sizes.ahead) e)))) g.2)) (k.each_place i lt))
 
       pub placed : Kept right sizes (record { words = Words; homes = Homes; views = set s.views id w })
       placed = turned right sizes s k p x id v w at next Words Homes (record {

@@ -1,7 +1,7 @@
 -- Hands are split and come back, and the rule at the start.
-use Rattle.std.proofs.Common.{◌≡◌, ◌≢◌, ℕ, suc, zero, ◌+◌, ◌-◌, ◌*◌, ◌^◌, ◌<◌, ◌≤◌, ◌⊎◌, ◌==◌, inl, inr, List, [], ◌∷◌, ◌++◌, map, length, get_or, set, replicate, Bool, true, false, cond, refl, sym, ap, ◌∙◌, subst, sum_by, arith, ⊎_elim}
+use Rattle.std.proofs.Common.{◌≡◌, ◌≢◌, ℕ, suc, zero, ◌+◌, ◌^◌, ◌<◌, ◌≤◌, inl, List, [], ◌∷◌, ◌++◌, map, get_or, set, replicate, false, refl, sym, ap, ◌∙◌, subst, sum_by, arith, ⊎_elim}
 use Rattle.std.proofs.lemmas.List.{length-replicate, length-map}
-use Rattle.std.specs.Prelude.{Option, Some, None, if◌then◌else◌}
+use Rattle.std.specs.Prelude.{Option, None}
 use mathlib.Core.Option.{some, none, some-injective}
 use mathlib.Core.Option as maybe
 use lib.ListN.{get_elem?}
@@ -10,16 +10,14 @@ use Rattle.atomic_table.specs.Table.{State, Splits, Joins, opening}
 use Rattle.atomic_table.proofs.Lists.{at_set, at_snoc, at_longer, set_here, set_else}
 use Rattle.commit_places.specs.declared.view.Sizes.{Sizes}
 use Rattle.commit_places.specs.declared.view.Stage.{Stage}
-use Rattle.commit_places.specs.declared.view.Ticket.{Ticket}
-use Rattle.commit_places.specs.declared.view.Ticket.TheVariants.{Free, Held}
-use Rattle.commit_places.specs.declared.view.Next.{Next}
+use Rattle.commit_places.specs.declared.view.Ticket.TheVariants.{Free}
 use Rattle.commit_places.specs.declared.view.HandView.{HandView}
 use Rattle.commit_places.specs.declared.view.CommitterView.{CommitterView}
 use Rattle.commit_places.specs.declared.view.View.{View}
 use Rattle.commit_places.specs.declared.view.View.TheVariants.{Committer, Hand, Joined}
-use Rattle.commit_places.specs.Rule.{Status, undrawn, held, lying, taking, gone, lost, ticket_of, ticket_at, hands_of, overs_of, Fits, Kept}
+use Rattle.commit_places.specs.Rule.{Status, undrawn, held, gone, ticket_of, ticket_at, hands_of, overs_of, Fits, Kept}
 use Rattle.commit_places.specs.Steps.{first_committer, new_hand, committer_splitting, committer_joining}
-use Rattle.commit_places.proofs.Basics.{by_eq, got, sum_put, tickets_stay, no_ticket}
+use Rattle.commit_places.proofs.Basics.{got, sum_put, tickets_stay, no_ticket}
 use Rattle.commit_places.proofs.Hands.{overs_few, not_committer}
 
 -- a seat at the end that has no ticket changes no ticket
@@ -158,15 +156,19 @@ opens {C} right sizes some_place small = record {
   where
     views : List View
     views = Committer (first_committer sizes) ∷ []
+
     only : (j : ℕ) (c : CommitterView) → get_elem? views j ≡ some (Committer c) → j ≡ 0
     only zero c e = refl
     only (suc j) c e = absurd (maybe.some-ne-none (Committer c) (sym e))
+
     page : (q : ℕ) → Fits right sizes 0 (first_committer sizes).next false (replicate (sizes.ahead + 2) 0) (map some (replicate sizes.ahead None)) q (first_status q)
     page zero = ((omega arith, omega arith), inl (omega arith))
     page (suc q) = inl (omega (arith, zeros (sizes.ahead + 2) 0))
+
     no_held : (q j : ℕ) (g : Stage) → first_status q ≡ held j g → ⊥
     no_held zero j g e = cc
     no_held (suc q) j g e = cc
+
     none_at : (j : ℕ) → ticket_at views j ≡ Free
     none_at zero = refl
     none_at (suc j) = refl

@@ -1,5 +1,5 @@
 -- What callers see of places, of hands and of the committer, and what the calls answer.
-use Rattle.std.specs.Prelude.{◌≡◌, ℕ, ◌+◌, ◌<◌, ◌≤◌, Bool, true, false, nat_le, if◌then◌else◌, Option, Some, None}
+use Rattle.std.specs.Prelude.{◌≡◌, ℕ, ◌+◌, ◌<◌, ◌≤◌, Bool, true, false, nat_le, if◌then◌else◌}
 use Rattle.atomic_table.specs.Seated.{TableId}
 use Rattle.commit_places.specs.declared.view.Sizes.{Sizes}
 use Rattle.commit_places.specs.declared.view.Stage.TheVariants.{Drawn, Begun}
@@ -7,6 +7,8 @@ use Rattle.commit_places.specs.declared.view.Ticket.{Ticket}
 use Rattle.commit_places.specs.declared.view.Ticket.TheVariants.{Free, Held}
 use Rattle.commit_places.specs.declared.view.Next.{Next}
 use Rattle.commit_places.specs.declared.view.Next.TheVariants.{Waiting, Taken}
+use Rattle.commit_places.specs.declared.view.HandView.{HandView}
+use Rattle.commit_places.specs.declared.view.CommitterView.{CommitterView}
 use Rattle.commit_places.specs.declared.answer.Draw.{Draw}
 use Rattle.commit_places.specs.declared.answer.Draw.TheVariants.{Page, Over}
 use Rattle.commit_places.specs.declared.answer.Ready.{Ready}
@@ -18,6 +20,13 @@ use Rattle.commit_places.specs.Steps.{page_of}
 pub record PlacesId : Type 0 where
   pub table : TableId
   pub sizes : Sizes
+
+abbrev pub sizes_with : ℕ → ℕ → ℕ → Sizes
+sizes_with pages ahead workers = record { pages = pages; ahead = ahead; workers = workers }
+
+-- the table has these sizes: its key says so, and it has a slot for each place, and a word for each place beside the first two
+abbrev pub IsTableOf : Sizes → Sizes → TableId → Type 0
+IsTableOf sizes key table = (key ≡ sizes) × (table.words ≡ sizes.ahead + 2) × (table.slots ≡ sizes.ahead) × (0 < sizes.ahead)
 
 -- a hand: its places, the page that it drew and hasn't finished, and whether it drew that all are drawn
 pub record HandState : Type 0 where
@@ -32,6 +41,14 @@ pub record CommitterState : Type 0 where
   pub next : Next
   pub is_stopped : Bool
   pub hands : ℕ
+
+-- what callers see of a hand and of the committer that know this
+abbrev pub hand_state : TableId → HandView → HandState
+hand_state table view = record { places = record { table = table; sizes = view.sizes }; ticket = view.ticket; is_over = view.is_over }
+
+abbrev pub committer_state : TableId → CommitterView → CommitterState
+committer_state table view =
+    record { places = record { table = table; sizes = view.sizes }; count = view.count; next = view.next; is_stopped = view.is_stopped; hands = view.hands }
 
 -- a hand that was just split
 abbrev pub new_hand_state : PlacesId → HandState

@@ -3,11 +3,13 @@
 #![tactic(auto)]
 
 mod answer;
+mod law;
 mod places;
 mod rule;
 mod view;
 
 pub use answer::{Draw, Ready};
+pub use law::places_promise;
 pub use places::{Committer, Hand, Places};
 pub use view::{CommitterView, HandView, Next, Sizes, Stage, Ticket, View};
 

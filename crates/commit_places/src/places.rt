@@ -1,6 +1,6 @@
 //! The places, and the seats of those that share them.
 ghost use Rattle.std.specs.Prelude.{◌≡◌, ℕ, ◌+◌, ◌*◌, ◌^◌, ◌<◌, ◌≤◌, ◌==◌, true, is_some, IfOk, IfSome};
-ghost use Rattle.commit_places.specs.Seats.{PlacesId, HandState, CommitterState, new_hand_state, first_state, MayDraw, HasDrawn, HasBegun, MayTake, MayCommit, draw_answer, after_draw, ready_answer, after_ready, after_take};
+ghost use Rattle.commit_places.specs.Seats.{sizes_with, new_hand_state, first_state, MayDraw, HasDrawn, HasBegun, MayTake, MayCommit, draw_answer, after_draw, ready_answer, after_ready, after_take};
 ghost use Rattle.commit_places.specs.Rule.{place_of};
 ghost use Rattle.commit_places.specs.Steps.{page_of};
 ghost use Rattle.commit_places.specs.declared.view.Ticket.TheVariants.{Free};
@@ -8,7 +8,8 @@ ghost use Rattle.commit_places.specs.declared.view.Next.TheVariants.{Waiting};
 
 use crate::answer::{Draw, Ready};
 use crate::rule::{
-    Clearing, Committing, Drawing, Joining, Laying, Looking, PlacesRule, Seizing, Splitting, Stopping, Taking,
+    Clearing, Committing, Drawing, Joining, Laying, Looking, PlacesRule, Seizing, Splitting,
+    Stopping, Taking,
 };
 use crate::view::{Sizes, View};
 use atomic_table::{Seat, Table};
@@ -26,14 +27,13 @@ pub struct Places<T: PieceSpec> {
 }
 
 impl<T: PieceSpec> Model for Places<T> {
-    ghost use Rattle.std.specs.Prelude.{◌≡◌, ◌+◌, ◌<◌};
-    ghost use Rattle.commit_places.specs.Seats.{PlacesId};
+    ghost use Rattle.commit_places.specs.Seats.{PlacesId, IsTableOf};
 
     ghost Value = { PlacesId };
 
     ghost view = { λ p. record { table = p.table.shared.table_id; sizes = p.sizes } };
 
-    ghost invariant = { λ p. (p.table.shared.key ≡ p.sizes) × (p.table.shared.table_id.words ≡ p.sizes.ahead + 2) × (p.table.shared.table_id.slots ≡ p.sizes.ahead) × (0 < p.sizes.ahead) };
+    ghost invariant = { λ p. IsTableOf p.sizes p.table.shared.key p.table.shared.table_id };
 }
 
 /// The seat of one that draws pages and makes their pieces. Contracts see its state.
@@ -45,13 +45,13 @@ pub struct Hand<C> {
 
 impl<C> Model for Hand<C> {
     ghost use Rattle.std.specs.Prelude.{◌≡◌, []};
-    ghost use Rattle.commit_places.specs.Seats.{HandState};
+    ghost use Rattle.commit_places.specs.Seats.{HandState, hand_state};
     ghost use Rattle.commit_places.specs.Steps.{hand_of, page_of};
     ghost use Rattle.commit_places.specs.declared.view.View.TheVariants.{Hand as a_hand};
 
     ghost Value = { HandState };
 
-    ghost view = { λ h. record { places = record { table = h.seat.table_id; sizes = (hand_of h.seat.me.0).sizes }; ticket = (hand_of h.seat.me.0).ticket; is_over = (hand_of h.seat.me.0).is_over } };
+    ghost view = { λ h. hand_state h.seat.table_id (hand_of h.seat.me.0) };
 
     ghost invariant = { λ h. (h.seat.me ≡ (a_hand (hand_of h.seat.me.0), [])) × (h.page ≡ page_of (hand_of h.seat.me.0).ticket) };
 }
@@ -64,13 +64,13 @@ pub struct Committer<C> {
 
 impl<C> Model for Committer<C> {
     ghost use Rattle.std.specs.Prelude.{◌≡◌, []};
-    ghost use Rattle.commit_places.specs.Seats.{CommitterState};
+    ghost use Rattle.commit_places.specs.Seats.{CommitterState, committer_state};
     ghost use Rattle.commit_places.specs.Steps.{committer_of};
     ghost use Rattle.commit_places.specs.declared.view.View.TheVariants.{Committer as a_committer};
 
     ghost Value = { CommitterState };
 
-    ghost view = { λ b. record { places = record { table = b.seat.table_id; sizes = (committer_of b.seat.me.0).sizes }; count = (committer_of b.seat.me.0).count; next = (committer_of b.seat.me.0).next; is_stopped = (committer_of b.seat.me.0).is_stopped; hands = (committer_of b.seat.me.0).hands } };
+    ghost view = { λ b. committer_state b.seat.table_id (committer_of b.seat.me.0) };
 
     ghost invariant = { λ b. b.seat.me ≡ (a_committer (committer_of b.seat.me.0), []) };
 }
@@ -87,7 +87,7 @@ impl<T: PieceSpec> Places<T> {
     ) -> Result<(Places<T>, Committer<T::Piece>, Hand<T::Piece>), NoMemory>
         requires some_place { 1 ≤ ahead }
         requires small { pages + workers < 2 ^ 32 }
-        ensures sizes { IfOk result (λ r. r.0.sizes ≡ record { pages = pages; ahead = ahead; workers = workers }) }
+        ensures sizes { IfOk result (λ r. r.0.sizes ≡ sizes_with pages ahead workers) }
         ensures seats { IfOk result (λ r. (r.1 ≡ first_state r.0) × (r.2 ≡ new_hand_state r.0)) }
     {
         let sizes = Sizes {
@@ -133,10 +133,7 @@ impl<T: PieceSpec> Places<T> {
         ensures answer { (last : ℕ) × (result ≡ draw_answer self.now.sizes.pages last) }
         ensures hand { hand.new ≡ after_draw hand.old result }
     {
-        let last = self
-            .table
-            .shared
-            .fetch_add::<Drawing>(&mut hand.seat, 0, 1);
+        let last = self.table.shared.fetch_add::<Drawing>(&mut hand.seat, 0, 1);
         if last >= u64::from(self.sizes.pages) {
             return Draw::Over;
         }

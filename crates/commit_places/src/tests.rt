@@ -170,12 +170,7 @@ impl<'a> Worker<'a> {
 }
 
 // Takes the piece of the next page. Meanwhile the committer's own hand works as a worker does, where it isn't over.
-fn take<R: Wait>(
-    rt: &R,
-    places: &Places<Squares>,
-    committer: &mut Committer<u64>,
-    page: u32,
-) -> u64
+fn take<R: Wait>(rt: &R, places: &Places<Squares>, committer: &mut Committer<u64>, page: u32) -> u64
     requires { (committer.old.places ≡ places.now) × MayTake committer.old page }
     ensures { committer.new ≡ record committer.old { next = Taken } }
 {

@@ -1,10 +1,9 @@
-use Rattle.std.proofs.Common.{◌≡◌, ℕ, ◌<◌, ◌≤◌, ◌+◌, ◌-◌, ◌^◌, List, [], ◌∷◌, ◌∙◌, sym, ap, subst, arith, mod-lt, refl, Some, None, Option}
+use Rattle.std.proofs.Common.{◌≡◌, ℕ, ◌<◌, ◌+◌, ◌-◌, [], ◌∷◌, ◌∙◌, sym, ap, subst, arith, mod-lt, refl, Some, None, Option}
 use mathlib.Core.Option.{none}
 use Rattle.atomic_table.specs.Table.{Me, step, rest, Allows}
 use Rattle.commit_places.specs.declared.view.Stage.TheVariants.{Begun}
 use Rattle.commit_places.specs.declared.view.Ticket.{Ticket}
 use Rattle.commit_places.specs.declared.view.Ticket.TheVariants.{Held}
-use Rattle.commit_places.specs.declared.view.HandView.{HandView}
 use Rattle.commit_places.specs.declared.view.View.{View}
 use Rattle.commit_places.specs.declared.view.View.TheVariants.{Hand}
 use Rattle.commit_places.specs.Rule.{Kept, mark, place_of}

@@ -1,7 +1,7 @@
-use Rattle.std.proofs.Common.{◌≡◌, ℕ, ◌<◌, ◌≤◌, ◌+◌, [], ◌∙◌, sym, ap, subst, arith}
+use Rattle.std.proofs.Common.{◌∙◌, sym, ap, subst, arith}
 use Rattle.atomic_table.specs.Table.{Me, Joins}
 use Rattle.commit_places.specs.declared.view.View.{View}
-use Rattle.commit_places.specs.declared.view.View.TheVariants.{Committer, Hand, Joined}
+use Rattle.commit_places.specs.declared.view.View.TheVariants.{Committer, Joined}
 use Rattle.commit_places.specs.Rule.{Kept}
 use Rattle.commit_places.specs.Steps.{committer_of, hand_of, on_committer, committer_joining}
 use Rattle.commit_places.specs.Seats.{PlacesId, HandState, CommitterState}

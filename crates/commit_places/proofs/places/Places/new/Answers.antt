@@ -1,4 +1,4 @@
-use Rattle.std.proofs.Common.{◌≡◌, ℕ, ◌<◌, ◌≤◌, ◌+◌, [], replicate, List, ◌∙◌, sym, ap, subst, arith, None, Option}
+use Rattle.std.proofs.Common.{ℕ, replicate, List, ◌∙◌, sym, ap, subst, arith, None, Option}
 use Rattle.atomic_table.specs.Table.{Me, Splits, opening}
 use Rattle.commit_places.specs.declared.view.Sizes.{Sizes}
 use Rattle.commit_places.specs.declared.view.View.{View}

@@ -1,4 +1,4 @@
-use Rattle.std.proofs.Common.{◌≡◌, ℕ, ◌<◌, ◌≤◌, ◌+◌, [], ◌∙◌, sym, ap, subst, arith}
+use Rattle.std.proofs.Common.{◌∙◌, sym, ap, subst, arith}
 use Rattle.atomic_table.specs.Table.{Me, Splits}
 use Rattle.commit_places.specs.declared.view.View.{View}
 use Rattle.commit_places.specs.Rule.{Kept}

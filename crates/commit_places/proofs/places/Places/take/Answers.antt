@@ -1,4 +1,4 @@
-use Rattle.std.proofs.Common.{◌≡◌, ℕ, ◌<◌, ◌≤◌, ◌+◌, ◌-◌, ◌==◌, [], ◌∷◌, ◌∙◌, sym, ap, subst, arith, mod-lt, eq-eqb, true, Bool, refl, Some, None, Option}
+use Rattle.std.proofs.Common.{◌≡◌, ℕ, ◌<◌, ◌≤◌, ◌+◌, ◌-◌, ◌==◌, [], ◌∷◌, ◌∙◌, sym, ap, subst, arith, mod-lt, eq-eqb, Bool, refl, Some, None, Option}
 use Rattle.std.specs.Prelude.{MatchBool}
 use mathlib.Core.Option.{none}
 use prog.Atomic.{either}
@@ -47,7 +47,7 @@ exchange-piece-requires g c =
     let new = c.compare_exchange-found.new.seat in
     let S : Type 0 = Option g.row.T-Piece.Denot in
     let took : (piece : g.row.T-Piece.Denot) × g.T.PieceSpec.right p piece × ◌≡◌ {A = Me S View} new.me (on_committer (λ view. record view { next = Taking }) seat.me.0, (r + 2 - 2, Some piece) ∷ seat.me.1) =
-        subst (λ (t : Bool). MatchBool t ((piece : g.row.T-Piece.Denot) × g.T.PieceSpec.right p piece × ◌≡◌ {A = Me S View} new.me (on_committer (λ view. record view { next = Taking }) seat.me.0, (r + 2 - 2, Some piece) ∷ seat.me.1)) (◌≡◌ {A = Me S View} new.me seat.me)) (eq-eqb _ _ c.if-found-number.false) c.compare_exchange-found.ensures.2 in
+    subst (λ (t : Bool). MatchBool t ((piece : g.row.T-Piece.Denot) × g.T.PieceSpec.right p piece × ◌≡◌ {A = Me S View} new.me (on_committer (λ view. record view { next = Taking }) seat.me.0, (r + 2 - 2, Some piece) ∷ seat.me.1)) (◌≡◌ {A = Me S View} new.me seat.me)) (eq-eqb _ _ c.if-found-number.false) c.compare_exchange-found.ensures.2 in
     let back : r + 2 - 2 ≡ r = omega arith in (
       c.compare_exchange-found.ensures.0 ∙ ap (λ (x : PlacesId). x.table) here,
       (Some took.0, ap (λ (m : Me S View). m.1) took.2 ∙ (λ i. (back i, Some took.0) ∷ rest (sym (ap (λ (m : Me S View). m.1) took.2) i))),
@@ -68,7 +68,7 @@ swap-requires g c =
     let now = c.exchange-piece.new.seat in
     let S : Type 0 = Option g.row.T-Piece.Denot in
     let took : (piece : g.row.T-Piece.Denot) × g.T.PieceSpec.right p piece × ◌≡◌ {A = Me S View} new.me (on_committer (λ view. record view { next = Taking }) seat.me.0, (r + 2 - 2, Some piece) ∷ seat.me.1) =
-        subst (λ (t : Bool). MatchBool t ((piece : g.row.T-Piece.Denot) × g.T.PieceSpec.right p piece × ◌≡◌ {A = Me S View} new.me (on_committer (λ view. record view { next = Taking }) seat.me.0, (r + 2 - 2, Some piece) ∷ seat.me.1)) (◌≡◌ {A = Me S View} new.me seat.me)) (eq-eqb _ _ c.if-found-number.false) c.compare_exchange-found.ensures.2 in
+    subst (λ (t : Bool). MatchBool t ((piece : g.row.T-Piece.Denot) × g.T.PieceSpec.right p piece × ◌≡◌ {A = Me S View} new.me (on_committer (λ view. record view { next = Taking }) seat.me.0, (r + 2 - 2, Some piece) ∷ seat.me.1)) (◌≡◌ {A = Me S View} new.me seat.me)) (eq-eqb _ _ c.if-found-number.false) c.compare_exchange-found.ensures.2 in
     let place : r ≡ place_of key.ahead p = c.place_of-place.ensures ∙ ap (λ (x : PlacesId). place_of x.sizes.ahead c.args.page) (sym c.self.view_is) ∙ (λ i. place_of (sym a.0 i).ahead (sym c.from-number.ensures i)) in
     let some_place : 0 < key.ahead = subst (λ z. 0 < z.ahead) (sym a.0) a.3 in
     let near : place_of key.ahead p < key.ahead = mod-lt (p - 1) some_place in
