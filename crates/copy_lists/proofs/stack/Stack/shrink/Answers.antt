@@ -1,7 +1,7 @@
 use Rattle.std.proofs.Common.{◌≡◌, ◌-◌, ◌≤◌, length, take, drop, ap, ◌∙◌, reverse}
 use Rattle.std.proofs.lemmas.List.{length-reverse}
-use Rattle.ps_objects.proofs.Reversed.{shrunk}
-use Rattle.ps_objects.proofs.stack.Stack.shrink.Goals as goal
+use Rattle.copy_lists.proofs.Reversed.{shrunk}
+use Rattle.copy_lists.proofs.stack.Stack.shrink.Goals as goal
 
 pub returns : goal.returns
 returns g c =

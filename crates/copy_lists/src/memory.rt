@@ -8,7 +8,7 @@ pub struct NoMemory;
 
 impl From<AllocError> for NoMemory {
     ghost use Rattle.std.specs.Prelude.{◌≡◌};
-    ghost use Rattle.ps_shapes.specs.declared.memory.NoMemory.{NoMemory};
+    ghost use Rattle.copy_lists.specs.declared.memory.NoMemory.{NoMemory};
 
     ghost from_gives = { λ _ refusal. refusal ≡ record {} };
 
@@ -19,7 +19,7 @@ impl From<AllocError> for NoMemory {
 
 impl<T: Drop> From<AllocFailed<T>> for NoMemory {
     ghost use Rattle.std.specs.Prelude.{◌≡◌};
-    ghost use Rattle.ps_shapes.specs.declared.memory.NoMemory.{NoMemory};
+    ghost use Rattle.copy_lists.specs.declared.memory.NoMemory.{NoMemory};
 
     ghost from_gives = { λ _ refusal. refusal ≡ record {} };
 

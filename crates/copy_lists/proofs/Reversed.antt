@@ -1,6 +1,6 @@
 use Rattle.std.proofs.Common.{◌≡◌, ℕ, ◌-◌, ◌≤◌, List, ◌++◌, length, take, drop, sym, ap, ◌∙◌, arith, length-drop}
 use Rattle.std.specs.Prelude.{reverse}
-use Rattle.ps_objects.specs.Turned.{end_turned}
+use Rattle.copy_lists.specs.Turned.{end_turned}
 use Rattle.std.proofs.lemmas.List.{reverse-append, reverse-reverse, length-reverse, take-append-drop, drop_at, take_at}
 
 -- the newest n taken away, where a list is seen from its end

@@ -1,8 +1,8 @@
 use Rattle.std.proofs.Common.{◌≡◌, ◌≤◌, length, ap, ◌∙◌, reverse, lit≤}
 use Rattle.std.proofs.lemmas.List.{length-reverse}
-use Rattle.ps_objects.specs.Turned.{rolled}
-use Rattle.ps_objects.proofs.Reversed.{roll_view}
-use Rattle.ps_objects.proofs.stack.Stack.exchange.Goals as goal
+use Rattle.copy_lists.specs.Turned.{rolled}
+use Rattle.copy_lists.proofs.Reversed.{roll_view}
+use Rattle.copy_lists.proofs.stack.Stack.exchange.Goals as goal
 
 pub returns : goal.returns
 returns g c =

@@ -1,6 +1,6 @@
 //! Stacks.
 ghost use Rattle.std.specs.Prelude.{◌≡◌, ◌<◌, ◌≤◌, ◌==◌, List, [], ◌∷◌, length, drop, slice_get, option_copied, Some, MatchOption, IfOk, OnOk, OnErr, reverse};
-ghost use Rattle.ps_objects.specs.Turned.{end_turned};
+ghost use Rattle.copy_lists.specs.Turned.{end_turned};
 
 use crate::{Duplicate, NoMemory};
 use std::alloc::Global;
@@ -92,7 +92,7 @@ impl<T: Drop> Stack<T> {
 }
 
 impl<T: Drop> Stack<T> {
-    ghost use Rattle.ps_objects.specs.Turned.{rolled};
+    ghost use Rattle.copy_lists.specs.Turned.{rolled};
 
     /// Exchanges the newest two.
     pub fn exchange(&mut self)

@@ -1,7 +1,7 @@
 //! Equal copies.
 ghost use Rattle.std.specs.Prelude.{◌≡◌, IfOk};
 
-use crate::{NoMemory, Paper};
+use crate::NoMemory;
 
 /// What can be made anew, equal to what is there.
 pub trait Duplicate: Sized {
@@ -12,11 +12,5 @@ pub trait Duplicate: Sized {
 impl Duplicate for u32 {
     fn duplicate(&self) -> Result<u32, NoMemory> {
         Ok(*self)
-    }
-}
-
-impl Duplicate for Paper {
-    fn duplicate(&self) -> Result<Paper, NoMemory> {
-        self.copy()
     }
 }

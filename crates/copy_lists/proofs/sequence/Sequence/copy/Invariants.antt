@@ -1,5 +1,5 @@
 use Rattle.std.proofs.Common.{◌≡◌, take}
-use Rattle.ps_objects.proofs.sequence.Sequence.copy.Given as goal
+use Rattle.copy_lists.proofs.sequence.Sequence.copy.Given as goal
 
 abbrev pub invariant-loop-item : goal.invariant-loop-item
 invariant-loop-item g l = l.items.items ≡ take l.item-index l.item-items
