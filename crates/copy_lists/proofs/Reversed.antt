@@ -1,7 +1,8 @@
-use Rattle.std.proofs.Common.{◌≡◌, ℕ, ◌-◌, ◌≤◌, List, ◌++◌, length, take, drop, sym, ap, ◌∙◌, arith, length-drop}
+use Rattle.std.proofs.Common.{◌≡◌, ℕ, ◌-◌, ◌<◌, ◌≤◌, List, [], ◌∷◌, ◌++◌, length, take, drop, set, sym, ap, ◌∙◌, arith, length-drop}
 use Rattle.std.specs.Prelude.{reverse}
 use Rattle.copy_lists.specs.Turned.{end_turned}
-use Rattle.std.proofs.lemmas.List.{reverse-append, reverse-reverse, length-reverse, take-append-drop, drop_at, take_at}
+use Rattle.std.proofs.lemmas.Grind.{take-set_at}
+use Rattle.std.proofs.lemmas.List.{reverse-append, reverse-reverse, length-reverse, length-set, take-append-drop, take_all, drop_at, take_at}
 
 -- the newest n taken away, where a list is seen from its end
 pub shrunk : {A : Type 0} (xs : List A) (n : ℕ) → n ≤ length xs → reverse (take (length xs - n) xs) ≡ drop n (reverse xs)
@@ -33,3 +34,15 @@ roll_view xs n k h g =
 
 pub turned_back : {A : Type 0} (xs : List A) → reverse (reverse xs) ≡ xs
 turned_back xs = reverse-reverse xs
+
+-- the last item replaced
+pub last_replaced : {A : Type 0} (xs : List A) (y : A) → 0 < length xs → set xs (length xs - 1) y ≡ take (length xs - 1) xs ++ y ∷ []
+last_replaced xs y h =
+    let i = length xs - 1 in
+    sym (take_all (length xs) (set xs i y) (omega (arith, length-set xs i y))) ∙ take-set_at xs i (length xs) y (omega arith) (omega arith)
+
+-- the same, where the list is seen from its end
+pub newest_replaced : {A : Type 0} (xs : List A) (y : A) → 0 < length xs → reverse (set xs (length xs - 1) y) ≡ y ∷ drop 1 (reverse xs)
+newest_replaced xs y h =
+    let one : length xs - (length xs - 1) ≡ 1 = omega arith in
+    ap reverse (last_replaced xs y h) ∙ reverse-append (take (length xs - 1) xs) (y ∷ []) ∙ ap (λ ys. y ∷ ys) (shrunk xs 1 (omega arith))

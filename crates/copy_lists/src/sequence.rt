@@ -79,6 +79,13 @@ impl<T: Drop> Sequence<T> {
         self.items.push(item)?;
         Ok(())
     }
+
+    /// Takes all items away.
+    pub fn clear(&mut self)
+        ensures { self.new ≡ [] }
+    {
+        self.items.clear();
+    }
 }
 
 impl<T: Drop + Duplicate> Sequence<T> {
@@ -90,6 +97,12 @@ impl<T: Drop + Duplicate> Sequence<T> {
             items.push(item.duplicate()?)?;
         }
         Ok(Sequence { items })
+    }
+}
+
+impl<T: Drop + Duplicate> Duplicate for Sequence<T> {
+    fn duplicate(&self) -> Result<Sequence<T>, NoMemory> {
+        self.copy()
     }
 }
 

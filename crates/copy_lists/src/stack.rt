@@ -29,6 +29,11 @@ impl<T: Drop> Stack<T> {
         }
     }
 
+    /// Where the stack's memory comes from.
+    pub fn alloc(&self) -> Global {
+        *self.items.allocator()
+    }
+
     pub fn len(&self) -> usize
         ensures { result ≡ length self.now }
     {
@@ -73,6 +78,15 @@ impl<T: Drop> Stack<T> {
         ensures { MatchOption result ((self.old ≡ []) × (self.new ≡ [])) (λ x. self.old ≡ x ∷ self.new) }
     {
         self.items.pop()
+    }
+
+    /// Puts an item in the place of the newest.
+    pub fn replace(&mut self, item: T)
+        requires { 0 < length self.old }
+        ensures { self.new ≡ item ∷ drop 1 self.old }
+    {
+        let last = self.items.len() - 1;
+        self.items[last] = item;
     }
 
     pub fn clear(&mut self)

@@ -12,10 +12,18 @@ fn copies_are_equal(rt: HostRuntime) -> Result<(), Fail> {
     list.push(8)?;
     assert!(rt; list.copy()? == list);
     assert!(rt; list.len() == 2);
+    let mut lists: Sequence<Sequence<u32>> = Sequence::new(rt.alloc());
+    lists.push(list)?;
+    assert!(rt; lists.copy()? == lists);
+    lists.clear();
+    assert!(rt; lists.is_empty());
     let mut stack: Stack<u32> = Stack::new(rt.alloc());
     stack.push(7)?;
     stack.push(8)?;
     assert!(rt; stack.copy()? == stack);
+    let other: Stack<u32> = Stack::new(stack.alloc());
+    assert!(rt; other != stack);
+    assert!(rt; Text::from_text(rt.alloc(), "add")?.as_slice() == b"add".as_slice());
     let boxed = Boxed::new(rt.alloc(), 4u32)?;
     assert!(rt; boxed.copy()?.into_inner() == 4);
     Ok(())
@@ -33,6 +41,9 @@ fn stacks_turn(rt: HostRuntime) -> Result<(), Fail> {
     assert!(rt; stack.len() == 4);
     stack.exchange();
     assert!(rt; stack.get(1) == Some(&2));
+    assert!(rt; stack.len() == 4);
+    stack.replace(9);
+    assert!(rt; stack.get(0) == Some(&9));
     assert!(rt; stack.len() == 4);
     stack.shrink(3);
     assert!(rt; stack.get(1).is_none());

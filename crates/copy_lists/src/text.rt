@@ -40,6 +40,13 @@ impl Text {
         })
     }
 
+    /// The bytes of a string slice.
+    pub fn from_text(alloc: Global, text: &str) -> Result<Text, NoMemory>
+        ensures { IfOk result (λ bytes. bytes ≡ text.now) }
+    {
+        Text::from_bytes(alloc, text.as_bytes())
+    }
+
     pub fn as_slice(&self) -> &[u8]
         ensures { result.now ≡ self.now }
     {

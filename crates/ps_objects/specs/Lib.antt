@@ -7,4 +7,3 @@ pub mod Object
 pub mod Op
 pub mod OperatorNames
 pub mod Operands
-pub mod Turned
