@@ -2,11 +2,11 @@
 use Rattle.std.proofs.Common.{◌≡◌, ℕ, zero, suc, ◌≤◌, ◌+◌, ◌==◌, Bool, true, false, not, cond, ◌&&◌, List, [], ◌∷◌, nat_lt, Some, Result, Ok, Err, sym, subst, arith, true≢false}
 use Rattle.std.specs.List.{AllByRecursion}
 use Rattle.ps_objects.specs.Access.{run_right}
-use Rattle.ps_objects.specs.Op.{default_entry}
+use Rattle.ps_names.specs.Op.{default_entry}
 use Rattle.ps_objects.specs.Operands.{room_for}
 use Rattle.ps_objects.specs.declared.cell.Cell.{Cell}
-use Rattle.ps_objects.specs.declared.error_name.ErrorName.{ErrorName}
-use Rattle.ps_objects.specs.declared.error_name.ErrorName.TheVariants.{Undefined}
+use Rattle.ps_names.specs.declared.error_name.ErrorName.{ErrorName}
+use Rattle.ps_names.specs.declared.error_name.ErrorName.TheVariants.{Undefined}
 use Rattle.ps_objects.specs.declared.key.Key.{Key}
 use Rattle.ps_objects.specs.declared.key.Key.TheVariants as key
 use Rattle.ps_objects.specs.declared.object.Object.{Object}

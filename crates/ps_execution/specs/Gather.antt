@@ -5,8 +5,8 @@ use Rattle.ps_objects.specs.declared.access.Access.TheVariants.{Unlimited, ReadO
 use Rattle.ps_objects.specs.declared.cell.Cell.{Cell}
 use Rattle.ps_objects.specs.declared.cell.Space.{Space}
 use Rattle.ps_objects.specs.declared.cell.Space.TheVariants.{Local, Global}
-use Rattle.ps_objects.specs.declared.error_name.ErrorName.{ErrorName}
-use Rattle.ps_objects.specs.declared.error_name.ErrorName.TheVariants.{InvalidAccess, LimitCheck, SyntaxError, Undefined, VmError}
+use Rattle.ps_names.specs.declared.error_name.ErrorName.{ErrorName}
+use Rattle.ps_names.specs.declared.error_name.ErrorName.TheVariants.{InvalidAccess, LimitCheck, SyntaxError, Undefined, VmError}
 use Rattle.ps_objects.specs.declared.key.Key.TheVariants as key
 use Rattle.ps_objects.specs.declared.object.Object.{Object}
 use Rattle.ps_objects.specs.declared.object.Kind.{Kind}

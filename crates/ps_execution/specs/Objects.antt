@@ -1,12 +1,12 @@
 -- What executing an object does.
 use Rattle.std.specs.Prelude.{ℕ, zero, suc, Bool, true, false, not, cond, ◌&&◌, ◌==◌, nat_lt, List, [], ◌∷◌, drop, length}
 use Rattle.ps_objects.specs.Access.{run_right}
-use Rattle.ps_objects.specs.ErrorName.{bytes_of}
-use Rattle.ps_objects.specs.Op.{default_entry}
+use Rattle.ps_names.specs.ErrorName.{bytes_of}
+use Rattle.ps_names.specs.Op.{default_entry}
 use Rattle.ps_objects.specs.Operands.{room_for}
 use Rattle.ps_objects.specs.declared.cell.Cell.{Cell}
-use Rattle.ps_objects.specs.declared.error_name.ErrorName.{ErrorName}
-use Rattle.ps_objects.specs.declared.error_name.ErrorName.TheVariants.{Undefined}
+use Rattle.ps_names.specs.declared.error_name.ErrorName.{ErrorName}
+use Rattle.ps_names.specs.declared.error_name.ErrorName.TheVariants.{Undefined}
 use Rattle.ps_objects.specs.declared.key.Key.{Key}
 use Rattle.ps_objects.specs.declared.key.Key.TheVariants as key
 use Rattle.ps_objects.specs.declared.object.Object.{Object}

@@ -15,7 +15,7 @@ use Rattle.ps_objects.specs.declared.key.Key.{Key}
 use Rattle.ps_objects.specs.declared.object.Object.{Object}
 use Rattle.ps_objects.specs.declared.place.Value.TheVariants as value
 use Rattle.ps_objects.specs.declared.place.Shape.TheVariants as shape
-use Rattle.ps_objects.specs.OperatorNames.{operator_names, error_names}
+use Rattle.ps_names.specs.Operators.{operator_names, error_names}
 use Rattle.ps_memory.specs.Order.{cell_cmp, key_cmp}
 use Rattle.ps_memory.specs.Memory.{is_global, Cells, Content, dictionary, items, characters, Memory, Slot, entry, access, item, whole, held, is, object_found, in_content, at, shape_in, shape_at, blank}
 use Rattle.ps_memory.specs.Ownership.{same_cell}

@@ -11,7 +11,7 @@ use Rattle.ps_objects.specs.declared.key.Key.TheVariants as key
 use Rattle.ps_objects.specs.declared.object.Object.{Object}
 use Rattle.ps_objects.specs.declared.object.Kind.{Kind}
 use Rattle.ps_objects.specs.declared.object.Kind.TheVariants as kind
-use Rattle.ps_objects.specs.OperatorNames.{operator_names, error_names}
+use Rattle.ps_names.specs.Operators.{operator_names, error_names}
 use Rattle.ps_kinds.specs.declared.graphics.Colour.TheVariants.{Gray}
 use Rattle.ps_kinds.specs.declared.graphics.GState.{GState}
 use Rattle.ps_kinds.specs.declared.ranges.LineCap.TheVariants.{Butt}

@@ -3,13 +3,10 @@
 
 mod access;
 mod cell;
-mod error_name;
 mod key;
 mod name;
 mod object;
 mod objects;
-mod op;
-mod operator_names;
 mod place;
 mod refusal;
 mod section;
@@ -20,17 +17,15 @@ mod tests;
 pub use access::Access;
 pub use cell::{Cell, SaveName, Space};
 pub use copy_lists::{Duplicate, NoMemory, Sequence, Stack, Text};
-pub use error_name::ErrorName;
 pub use key::{Key, KeyForm, Keys};
-pub use name::{NAME_LIMIT, Name};
+pub use name::Name;
 pub use object::{Kind, Object};
 pub use objects::{
     DICT_STACK_LIMIT, DictStack, FileName, Interval, Number, OPERAND_LIMIT, Objects, Operands,
     dict_room,
 };
-pub use op::{FIRST_DEFAULT_ENTRY, OPERATOR_COUNT, Op};
-pub use operator_names::op_name;
 pub use place::{Loc, Shape, Value};
+pub use ps_names::{ErrorName, NAME_LIMIT, Op, op_name, places};
 pub use ps_shapes::{Matrix, Paper, Real};
 pub use refusal::Refusal;
 pub use section::SectionKind;

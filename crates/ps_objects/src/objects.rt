@@ -24,7 +24,7 @@ pub enum Number {
 }
 
 /// A part of an array or of a string.
-#[derive(Clone, Copy, Debug, PartialEq, Eq)]
+#[derive(Clone, Copy, Debug, PartialEq, Eq, PartialOrd, Ord)]
 pub struct Interval {
     pub cell: Cell,
     pub start: u32,
@@ -159,19 +159,14 @@ impl Operands for Stack<Object> {
 
     fn array(&self, depth: usize) -> Result<Interval, ErrorName> {
         match self.object(depth)?.kind {
-            Kind::Array {
-                cell,
-                start,
-                len,
-                ..
-            } => Ok(Interval { cell, start, len }),
+            Kind::Array { interval, .. } => Ok(interval),
             _ => Err(ErrorName::TypeCheck),
         }
     }
 
     fn string(&self, depth: usize) -> Result<Interval, ErrorName> {
         match self.object(depth)?.kind {
-            Kind::Str { cell, start, len } => Ok(Interval { cell, start, len }),
+            Kind::Str(interval) => Ok(interval),
             _ => Err(ErrorName::TypeCheck),
         }
     }
@@ -179,18 +174,7 @@ impl Operands for Stack<Object> {
     fn procedure(&self, depth: usize) -> Result<Interval, ErrorName> {
         let object = self.object(depth)?;
         match object.kind {
-            Kind::Array {
-                cell,
-                start,
-                len,
-                ..
-            } => {
-                if object.exec {
-                    Ok(Interval { cell, start, len })
-                } else {
-                    Err(ErrorName::TypeCheck)
-                }
-            }
+            Kind::Array { interval, .. } if object.exec => Ok(interval),
             _ => Err(ErrorName::TypeCheck),
         }
     }

@@ -5,8 +5,8 @@ use Rattle.std.specs.Ordering.{nat_cmp, is_gt, ordering_then}
 use Rattle.std.specs.List.{AllByRecursion}
 use Rattle.ps_objects.specs.declared.cell.Cell.{Cell}
 use Rattle.ps_objects.specs.declared.cell.SaveName.{SaveName}
-use Rattle.ps_objects.specs.declared.error_name.ErrorName.{ErrorName}
-use Rattle.ps_objects.specs.declared.error_name.ErrorName.TheVariants.{InvalidAccess, VmError}
+use Rattle.ps_names.specs.declared.error_name.ErrorName.{ErrorName}
+use Rattle.ps_names.specs.declared.error_name.ErrorName.TheVariants.{InvalidAccess, VmError}
 use Rattle.ps_objects.specs.declared.key.Key.{Key}
 use Rattle.ps_objects.specs.declared.object.Object.{Object}
 use Rattle.ps_objects.specs.declared.key.Key.TheVariants as key

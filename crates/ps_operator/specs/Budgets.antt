@@ -1,8 +1,8 @@
 -- Refusals by budgets and rights.
 use Rattle.std.specs.Prelude.{ℕ, ◌+◌, Bool, false, not, ◌&&◌, ◌||◌, nat_lt, nat_eq, List, length, if◌then◌else◌, Option, Some, None, Result, Ok, Err}
 use Rattle.ps_objects.specs.declared.cell.Cell.{Cell}
-use Rattle.ps_objects.specs.declared.error_name.ErrorName.{ErrorName}
-use Rattle.ps_objects.specs.declared.error_name.ErrorName.TheVariants.{ExecStackOverflow, InvalidAccess, LimitCheck, VmError}
+use Rattle.ps_names.specs.declared.error_name.ErrorName.{ErrorName}
+use Rattle.ps_names.specs.declared.error_name.ErrorName.TheVariants.{ExecStackOverflow, InvalidAccess, LimitCheck, VmError}
 use Rattle.ps_objects.specs.declared.object.Kind.{Kind}
 use Rattle.ps_objects.specs.declared.section.SectionKind.{SectionKind}
 use Rattle.ps_kinds.specs.declared.frame.Frame.{Frame}

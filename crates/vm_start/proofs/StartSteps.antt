@@ -10,7 +10,7 @@ use Rattle.ps_objects.specs.declared.key.Key.{Key}
 use Rattle.ps_objects.specs.declared.key.Key.TheVariants as key
 use Rattle.ps_objects.specs.declared.object.Object.{Object}
 use Rattle.ps_objects.specs.declared.object.Kind.TheVariants as kind
-use Rattle.ps_objects.specs.OperatorNames.{operator_names}
+use Rattle.ps_names.specs.Operators.{operator_names}
 use Rattle.ps_memory.specs.Order.{cell_cmp, key_cmp}
 use Rattle.ps_memory.specs.Memory.{Content, Cells, dictionary}
 use Rattle.ps_memory.proofs.Order.{cells_total, keys_total, cells_antisymmetric, keys_antisymmetric}

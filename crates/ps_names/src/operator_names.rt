@@ -1,8 +1,12 @@
 //! The names of operators.
 ghost use Rattle.std.specs.Prelude.{◌≡◌, ◌<◌, ◌≤◌, length, slice_get, Some};
-ghost use Rattle.ps_objects.specs.OperatorNames.{operator_names, stack_names, number_names, bit_names, text_names, dict_names, array_names, control_names, file_names, memory_names, matrix_names, line_names, colour_names, path_names, paint_names, font_names, error_names};
+ghost use Rattle.ps_names.specs.Operators.{operator_names, names_of, stack_operators, number_operators, bit_operators, text_operators, dict_operators, array_operators, control_operators, file_operators, memory_operators, matrix_operators, line_operators, colour_operators, path_operators, paint_operators, font_operators, error_names};
 
-use crate::Op;
+use crate::op::{NAME_LIMIT, Op};
+use crate::places::{
+    ADD, ARRAY, CURRENTFILE, DEFINEFONT, DICT, EXEC, FILL, FIRST_DEFAULT_ENTRY, GSAVE, MATRIX,
+    NEWPATH, OPERATOR_COUNT, RAND, SAVE, SETGRAY, STRING,
+};
 
 /// The operand stack.
 static STACK_NAMES: [&[u8]; 12] = [
@@ -301,175 +305,175 @@ static ERROR_NAMES: [&[u8]; 20] = [
 /// The name of an operator.
 pub fn op_name(op: Op) -> &'static [u8]
     ensures name { slice_get operator_names op ≡ Some result.now }
-    ensures short { length result.now ≤ 127 }
+    ensures short { length result.now ≤ NAME_LIMIT }
 {
     name_at(op.index() as usize)
 }
 
 fn name_at(place: usize) -> &'static [u8]
-    requires { place < 239 }
+    requires { place < OPERATOR_COUNT }
     ensures name { slice_get operator_names place ≡ Some result.now }
-    ensures short { length result.now ≤ 127 }
+    ensures short { length result.now ≤ NAME_LIMIT }
 {
-    if place < 12 {
+    if place < ADD as usize {
         stack_name(place)
-    } else if place < 28 {
-        number_name(place - 12)
-    } else if place < 42 {
-        bit_name(place - 28)
-    } else if place < 55 {
-        text_name(place - 42)
-    } else if place < 74 {
-        dict_name(place - 55)
-    } else if place < 94 {
-        array_name(place - 74)
-    } else if place < 105 {
-        control_name(place - 94)
-    } else if place < 116 {
-        file_name(place - 105)
-    } else if place < 124 {
-        memory_name(place - 116)
-    } else if place < 140 {
-        matrix_name(place - 124)
-    } else if place < 158 {
-        line_name(place - 140)
-    } else if place < 174 {
-        colour_name(place - 158)
-    } else if place < 193 {
-        path_name(place - 174)
-    } else if place < 203 {
-        paint_name(place - 193)
-    } else if place < 219 {
-        font_name(place - 203)
+    } else if place < RAND as usize {
+        number_name(place - ADD as usize)
+    } else if place < STRING as usize {
+        bit_name(place - RAND as usize)
+    } else if place < DICT as usize {
+        text_name(place - STRING as usize)
+    } else if place < ARRAY as usize {
+        dict_name(place - DICT as usize)
+    } else if place < EXEC as usize {
+        array_name(place - ARRAY as usize)
+    } else if place < CURRENTFILE as usize {
+        control_name(place - EXEC as usize)
+    } else if place < SAVE as usize {
+        file_name(place - CURRENTFILE as usize)
+    } else if place < MATRIX as usize {
+        memory_name(place - SAVE as usize)
+    } else if place < GSAVE as usize {
+        matrix_name(place - MATRIX as usize)
+    } else if place < SETGRAY as usize {
+        line_name(place - GSAVE as usize)
+    } else if place < NEWPATH as usize {
+        colour_name(place - SETGRAY as usize)
+    } else if place < FILL as usize {
+        path_name(place - NEWPATH as usize)
+    } else if place < DEFINEFONT as usize {
+        paint_name(place - FILL as usize)
+    } else if place < FIRST_DEFAULT_ENTRY as usize {
+        font_name(place - DEFINEFONT as usize)
     } else {
-        error_name(place - 219)
+        error_name(place - FIRST_DEFAULT_ENTRY as usize)
     }
 }
 
 fn stack_name(place: usize) -> &'static [u8]
     requires { place < 12 }
-    ensures name { slice_get stack_names place ≡ Some result.now }
-    ensures short { length result.now ≤ 127 }
+    ensures name { slice_get (names_of stack_operators) place ≡ Some result.now }
+    ensures short { length result.now ≤ NAME_LIMIT }
 {
     STACK_NAMES[place]
 }
 
 fn number_name(place: usize) -> &'static [u8]
     requires { place < 16 }
-    ensures name { slice_get number_names place ≡ Some result.now }
-    ensures short { length result.now ≤ 127 }
+    ensures name { slice_get (names_of number_operators) place ≡ Some result.now }
+    ensures short { length result.now ≤ NAME_LIMIT }
 {
     NUMBER_NAMES[place]
 }
 
 fn bit_name(place: usize) -> &'static [u8]
     requires { place < 14 }
-    ensures name { slice_get bit_names place ≡ Some result.now }
-    ensures short { length result.now ≤ 127 }
+    ensures name { slice_get (names_of bit_operators) place ≡ Some result.now }
+    ensures short { length result.now ≤ NAME_LIMIT }
 {
     BIT_NAMES[place]
 }
 
 fn text_name(place: usize) -> &'static [u8]
     requires { place < 13 }
-    ensures name { slice_get text_names place ≡ Some result.now }
-    ensures short { length result.now ≤ 127 }
+    ensures name { slice_get (names_of text_operators) place ≡ Some result.now }
+    ensures short { length result.now ≤ NAME_LIMIT }
 {
     TEXT_NAMES[place]
 }
 
 fn dict_name(place: usize) -> &'static [u8]
     requires { place < 19 }
-    ensures name { slice_get dict_names place ≡ Some result.now }
-    ensures short { length result.now ≤ 127 }
+    ensures name { slice_get (names_of dict_operators) place ≡ Some result.now }
+    ensures short { length result.now ≤ NAME_LIMIT }
 {
     DICT_NAMES[place]
 }
 
 fn array_name(place: usize) -> &'static [u8]
     requires { place < 20 }
-    ensures name { slice_get array_names place ≡ Some result.now }
-    ensures short { length result.now ≤ 127 }
+    ensures name { slice_get (names_of array_operators) place ≡ Some result.now }
+    ensures short { length result.now ≤ NAME_LIMIT }
 {
     ARRAY_NAMES[place]
 }
 
 fn control_name(place: usize) -> &'static [u8]
     requires { place < 11 }
-    ensures name { slice_get control_names place ≡ Some result.now }
-    ensures short { length result.now ≤ 127 }
+    ensures name { slice_get (names_of control_operators) place ≡ Some result.now }
+    ensures short { length result.now ≤ NAME_LIMIT }
 {
     CONTROL_NAMES[place]
 }
 
 fn file_name(place: usize) -> &'static [u8]
     requires { place < 11 }
-    ensures name { slice_get file_names place ≡ Some result.now }
-    ensures short { length result.now ≤ 127 }
+    ensures name { slice_get (names_of file_operators) place ≡ Some result.now }
+    ensures short { length result.now ≤ NAME_LIMIT }
 {
     FILE_NAMES[place]
 }
 
 fn memory_name(place: usize) -> &'static [u8]
     requires { place < 8 }
-    ensures name { slice_get memory_names place ≡ Some result.now }
-    ensures short { length result.now ≤ 127 }
+    ensures name { slice_get (names_of memory_operators) place ≡ Some result.now }
+    ensures short { length result.now ≤ NAME_LIMIT }
 {
     MEMORY_NAMES[place]
 }
 
 fn matrix_name(place: usize) -> &'static [u8]
     requires { place < 16 }
-    ensures name { slice_get matrix_names place ≡ Some result.now }
-    ensures short { length result.now ≤ 127 }
+    ensures name { slice_get (names_of matrix_operators) place ≡ Some result.now }
+    ensures short { length result.now ≤ NAME_LIMIT }
 {
     MATRIX_NAMES[place]
 }
 
 fn line_name(place: usize) -> &'static [u8]
     requires { place < 18 }
-    ensures name { slice_get line_names place ≡ Some result.now }
-    ensures short { length result.now ≤ 127 }
+    ensures name { slice_get (names_of line_operators) place ≡ Some result.now }
+    ensures short { length result.now ≤ NAME_LIMIT }
 {
     LINE_NAMES[place]
 }
 
 fn colour_name(place: usize) -> &'static [u8]
     requires { place < 16 }
-    ensures name { slice_get colour_names place ≡ Some result.now }
-    ensures short { length result.now ≤ 127 }
+    ensures name { slice_get (names_of colour_operators) place ≡ Some result.now }
+    ensures short { length result.now ≤ NAME_LIMIT }
 {
     COLOUR_NAMES[place]
 }
 
 fn path_name(place: usize) -> &'static [u8]
     requires { place < 19 }
-    ensures name { slice_get path_names place ≡ Some result.now }
-    ensures short { length result.now ≤ 127 }
+    ensures name { slice_get (names_of path_operators) place ≡ Some result.now }
+    ensures short { length result.now ≤ NAME_LIMIT }
 {
     PATH_NAMES[place]
 }
 
 fn paint_name(place: usize) -> &'static [u8]
     requires { place < 10 }
-    ensures name { slice_get paint_names place ≡ Some result.now }
-    ensures short { length result.now ≤ 127 }
+    ensures name { slice_get (names_of paint_operators) place ≡ Some result.now }
+    ensures short { length result.now ≤ NAME_LIMIT }
 {
     PAINT_NAMES[place]
 }
 
 fn font_name(place: usize) -> &'static [u8]
     requires { place < 16 }
-    ensures name { slice_get font_names place ≡ Some result.now }
-    ensures short { length result.now ≤ 127 }
+    ensures name { slice_get (names_of font_operators) place ≡ Some result.now }
+    ensures short { length result.now ≤ NAME_LIMIT }
 {
     FONT_NAMES[place]
 }
 
-fn error_name(place: usize) -> &'static [u8]
+pub(crate) fn error_name(place: usize) -> &'static [u8]
     requires { place < 20 }
     ensures name { slice_get error_names place ≡ Some result.now }
-    ensures short { length result.now ≤ 127 }
+    ensures short { length result.now ≤ NAME_LIMIT }
 {
     ERROR_NAMES[place]
 }
