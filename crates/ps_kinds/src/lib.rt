@@ -16,14 +16,13 @@ pub use copy_lists::{Boxed, Duplicate, NoMemory, Sequence, Stack, Text};
 pub use frame::{FRAME_LIMIT, Frame, Frames, ImageRun, Pair, PathWalk, Samples, room_for_frame};
 pub use graphics::{Colour, GStack, GState, Layer};
 pub use ps_objects::{
-    Access, Cell, DICT_STACK_LIMIT, DictStack, ErrorName, FIRST_DEFAULT_ENTRY, FileName,
-    Interval, Key, KeyForm, Keys, Kind, Loc, NAME_LIMIT, Name, Number, OPERAND_LIMIT,
-    OPERATOR_COUNT, Object, Objects, Op, Refusal, SaveName, SectionKind, Settings, Shape,
-    Space, Value, op_name,
+    Access, Cell, DICT_STACK_LIMIT, DictStack, ErrorName, FileName, Interval, Key, KeyForm, Keys,
+    Kind, Loc, NAME_LIMIT, Name, Number, OPERAND_LIMIT, Object, Objects, Op, Operands, Refusal,
+    SaveName, SectionKind, Settings, Shape, Space, Value, dict_room, op_name, places,
 };
 pub use ps_shapes::{
-    Clip, Clips, DevicePoint, Matrix, Paper, Path, Point, Polygon, Polygons, Real, Rule,
-    Segment, Span, Spans, SpansList, Thresholds,
+    Clip, Clips, DevicePoint, Matrix, Paper, Path, Point, Polygon, Polygons, Real, Rule, Segment,
+    Span, Spans, SpansList, Thresholds,
 };
 pub use ranges::{Component, Lengths, LineCap, LineJoin, LineWidth, MiterLimit, PageSide};
 pub use regs::{Pages, Papers, RegField, Regs, SaveMark, Saves};

@@ -55,10 +55,10 @@ key_kind (key.FontId cell) = kind.FontId cell
 key_kind key.Mark = kind.Mark
 
 -- the cell that a key names
-abbrev pub key_cell : Key → Option Cell
-key_cell (key.Dict cell) = Some cell
-key_cell (key.Array interval _) = Some interval.cell
-key_cell _ = None
+abbrev pub cell_of_key : Key → Option Cell
+cell_of_key (key.Dict cell) = Some cell
+cell_of_key (key.Array interval _) = Some interval.cell
+cell_of_key _ = None
 
 -- the order of the kinds of keys
 abbrev pub kind_rank : Key → ℕ

@@ -1,7 +1,7 @@
 //! Keys of dictionaries.
 ghost use Rattle.std.specs.Prelude.{◌≡◌, IfOk, nat_lt, true, false};
 ghost use Rattle.ps_objects.specs.Operands.{Reads};
-ghost use Rattle.ps_objects.specs.Key.{key_form_of, real_key, key_kind, key_cell, kind_rank};
+ghost use Rattle.ps_objects.specs.Key.{key_form_of, real_key, key_kind, cell_of_key, kind_rank};
 ghost use Rattle.std.specs.declared.cmp.Ordering.TheVariants.{Less};
 
 use crate::{
@@ -104,7 +104,7 @@ impl Key {
 
     /// The cell that the key names.
     pub fn cell(&self) -> Option<Cell>
-        ensures { result ≡ key_cell self.now }
+        ensures { result ≡ cell_of_key self.now }
     {
         match self {
             Key::Dict(cell) => Some(*cell),

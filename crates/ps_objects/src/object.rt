@@ -70,11 +70,11 @@ impl Kind {
 }
 
 impl Kind {
-    ghost use Rattle.ps_objects.specs.Object.{cell_of};
+    ghost use Rattle.ps_objects.specs.Object.{cell_named};
 
     /// The cell that the object names, where it is a composite object.
     pub fn cell(&self) -> Option<Cell>
-        ensures { result ≡ cell_of self.now }
+        ensures { result ≡ cell_named self.now }
     {
         match self {
             Kind::Str(interval) => Some(interval.cell),
