@@ -1,12 +1,13 @@
 //! Memory on which others stand.
-ghost use Rattle.std.specs.Prelude.{◌≡◌, ◌<◌, ℕ, Option, Some, None, IfOk, IfSome, OnOk, OnErr, IsTrue, ◌↔◌, true};
+ghost use Rattle.std.specs.Prelude.{◌≡◌, ◌<◌, ℕ, Option, Some, None, IfOk, IfSome, OnOk, OnErr, IsTrue, ◌↔◌};
 ghost use Rattle.ps_objects.specs.declared.place.Loc.{Loc};
+ghost use Rattle.ps_memory.specs.Holders.{HaveHolders};
 ghost use Rattle.ps_memory.specs.Memory.{value_at};
-ghost use Rattle.ps_memory.specs.Writes.{apply, Applicable};
+ghost use Rattle.ps_memory.specs.Next.{IsNext};
+ghost use Rattle.ps_memory.specs.Writes.{apply};
 ghost use Rattle.ps_meaning.specs.Start.{start_memory};
-ghost use Rattle.vm_mem.specs.Conditions.{is_here};
-ghost use Rattle.vm_committed.specs.Writes.{actions};
-ghost use Rattle.vm_committed.specs.Next.{IsNext};
+ghost use Rattle.vm_mem.specs.Conditions.{MayApply};
+ghost use Rattle.vm_mem.specs.Writes.{actions};
 
 use crate::{Mem, Writes};
 use ps_objects::{Cell, Loc, NoMemory, Settings, Shape, Value};
@@ -31,8 +32,7 @@ pub trait Base: Mem + Sized {
 
     /// Does writes in order, each of which meets its condition where it is done. Where memory runs out nothing has changed.
     fn apply(&mut self, writes: &Writes) -> Result<(), NoMemory>
-        requires here { is_here (Self.log self.old).view.page ≡ true }
-        requires applicable { Applicable (actions writes.now) (Self.log self.old).view }
+        requires { MayApply (Self.log self.old).view (actions writes.now) }
         ensures ok { OnOk result ((Self.log self.new).view ≡ apply (actions writes.now) (Self.log self.old).view) }
         ensures err { OnErr result ((Self.log self.new).view ≡ (Self.log self.old).view) };
 
@@ -55,9 +55,12 @@ pub trait Base: Mem + Sized {
     /// The number of a place, below `places`. No other place has it.
     fn index(&self, at: &Loc) -> Option<u64>
         ensures number { result ≡ number self.now at.now }
-        ensures below { IfSome result (λ n. n < count self.now) };
+        ensures below { IfSome result (λ n. n < count self.now) }
+        ensures single { IfSome result (λ n. (l : Loc) → number self.now l ≡ Some n → l ≡ at.now) };
+
+    /// Bytes stand under cells of strings alone: what every such memory is known to have.
+    fn have_holders(&self)
+        ensures { HaveHolders (Self.log self.now).view };
 
     ghost untracked: { (memory : Self) → (Self.log memory).track ≡ None };
-
-    ghost numbered_once: { (memory : Self) (k l : Loc) (n : ℕ) → number memory k ≡ Some n → number memory l ≡ Some n → k ≡ l };
 }
