@@ -14,7 +14,7 @@ use crate::rule::{
 use crate::view::{Sizes, View};
 use atomic_table::{Seat, Table};
 use commit_desk::PieceSpec;
-use ps_shapes::NoMemory;
+use copy_lists::NoMemory;
 use std::alloc::Global;
 use std::marker::Model;
 
