@@ -1,6 +1,6 @@
 //! The places, and the seats of those that share them.
 ghost use Rattle.std.specs.Prelude.{◌≡◌, ℕ, ◌+◌, ◌*◌, ◌^◌, ◌<◌, ◌≤◌, ◌==◌, true, is_some, IfOk, IfSome};
-ghost use Rattle.commit_places.specs.Seats.{sizes_with, new_hand_state, first_state, MayDraw, HasDrawn, HasBegun, MayTake, MayCommit, draw_answer, after_draw, ready_answer, after_ready, after_take};
+ghost use Rattle.commit_places.specs.Seats.{sizes_with, new_hand_state, first_state, MayDraw, HasDrawn, HasBegun, MayTake, MayCommit, draw_answer, after_draw, ready_answer, after_ready, after_take, after_finish, after_join};
 ghost use Rattle.commit_places.specs.Rule.{place_of};
 ghost use Rattle.commit_places.specs.Steps.{page_of};
 ghost use Rattle.commit_places.specs.declared.view.Ticket.TheVariants.{Free};
@@ -120,7 +120,7 @@ impl<T: PieceSpec> Places<T> {
     pub fn join(&self, by: &mut Committer<T::Piece>, hand: Hand<T::Piece>)
         requires places { (by.old.places ≡ self.now) × (hand.places ≡ self.now) }
         requires free { hand.ticket ≡ Free }
-        ensures { by.new ≡ by.old }
+        ensures { by.new ≡ after_join by.old hand }
     {
         let Hand { seat, page: _ } = hand;
         self.table.shared.join_seat::<Joining>(&mut by.seat, seat);
@@ -167,7 +167,7 @@ impl<T: PieceSpec> Places<T> {
         requires places { hand.old.places ≡ self.now }
         requires begun { HasBegun hand.old }
         requires right { T.right (page_of hand.old.ticket) piece }
-        ensures { hand.new ≡ record hand.old { ticket = Free } }
+        ensures { hand.new ≡ after_finish hand.old }
     {
         let page = hand.page;
         let place = self.place_of(page);
