@@ -1,4 +1,4 @@
-ghost use Rattle.std.specs.Prelude.{◌≡◌, ℕ, ◌+◌, ◌*◌, ◌^◌, ◌<◌, ◌≤◌, true, false, if◌then◌else◌, MatchBool, IfSome};
+ghost use Rattle.std.specs.Prelude.{◌≡◌, ℕ, ◌+◌, ◌*◌, ◌^◌, ◌<◌, ◌≤◌, true, false, if◌then◌else◌, IsTrue, IfSome};
 ghost use Rattle.commit_places.specs.Seats.{MayDraw, HasDrawn, MayTake};
 ghost use Rattle.commit_places.specs.Steps.{page_of};
 ghost use Rattle.commit_places.specs.declared.view.Ticket.TheVariants.{Free, Held};
@@ -144,7 +144,7 @@ fn begin<R: Wait>(rt: &R, places: &Places<Squares>, hand: &mut Hand<u64>) -> boo
 // Draws a page and makes its piece, once the page may begin. Says whether there may be another.
 fn make<R: Wait>(rt: &R, places: &Places<Squares>, hand: &mut Hand<u64>, made: &Tally) -> bool
     requires { (hand.old.places ≡ places.now) × MayDraw hand.old }
-    ensures { MatchBool result (hand.new ≡ hand.old) (hand.new.places ≡ hand.old.places) }
+    ensures { (hand.new.places ≡ hand.old.places) × (IsTrue result → MayDraw hand.new) }
 {
     let Draw::Page(page) = places.draw(hand) else {
         return false;
