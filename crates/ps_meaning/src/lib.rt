@@ -2,6 +2,7 @@
 #![tactic(auto)]
 
 ghost use Rattle.ps_meaning.specs.Answer.{AnswerLaw, LayingLaw, SecondLookLaw};
+ghost use Rattle.ps_meaning.specs.Clauses.{ClausesLaw};
 ghost use Rattle.ps_meaning.specs.Kin.{KinLaw};
 ghost use Rattle.ps_meaning.specs.Sound.{SoundnessLaw};
 ghost use Rattle.ps_meaning.specs.Start.{StartLaw};
@@ -19,6 +20,11 @@ pub fn kin_law()
 /// A job starts in a sound state.
 pub fn start_law()
     ensures { StartLaw }
+{}
+
+/// A sound state is one that meets the six clauses.
+pub fn clauses_law()
+    ensures { ClausesLaw }
 {}
 
 /// An application answers as its run does, up to a restore of a save that was made before the run.
