@@ -13,7 +13,7 @@ use Rattle.vm_mem.specs.declared.glance.Glance.TheVariants.{Absent, Integer, Rea
 -- an executable object: an operator with unlimited access, or an array
 abbrev pub glance_of_executable : Kind → Access → Glance
 glance_of_executable (kind.Operator op) Unlimited = Operator op
-glance_of_executable (kind.Array cell start len packed) a = Procedure (record { cell = cell; start = start; len = len }) packed a
+glance_of_executable (kind.Array part packed) a = Procedure part packed a
 glance_of_executable _ _ = Other
 
 -- a literal object with unlimited access: a number or a truth value
@@ -48,7 +48,7 @@ object_told (Integer n) = Some (record { kind = kind.Integer n; exec = false; ac
 object_told (Real r) = Some (record { kind = kind.Real r; exec = false; access = Unlimited })
 object_told (Boolean b) = Some (record { kind = kind.Boolean b; exec = false; access = Unlimited })
 object_told (Operator op) = Some (record { kind = kind.Operator op; exec = true; access = Unlimited })
-object_told (Procedure a packed access) = Some (record { kind = kind.Array a.cell a.start a.len packed; exec = true; access = access })
+object_told (Procedure a packed access) = Some (record { kind = kind.Array a packed; exec = true; access = access })
 object_told Absent = None
 object_told Other = None
 

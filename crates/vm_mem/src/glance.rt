@@ -1,7 +1,6 @@
 //! A small answer to a look.
 ghost use Rattle.std.specs.Prelude.{◌≡◌, true, false};
 ghost use Rattle.ps_objects.specs.declared.access.Access.TheVariants.{Unlimited};
-ghost use Rattle.ps_objects.specs.declared.object.Kind.TheVariants as kind;
 ghost use Rattle.vm_mem.specs.Glances.{glance_of, glance_at, glance_of_executable, glance_of_literal, is_absent, object_told};
 
 use ps_objects::{Access, Interval, Kind, Object, Op, Real, Value};
@@ -70,7 +69,13 @@ impl Glance {
                 interval,
                 packed,
                 access,
-            } => Some(executable(array(*interval, *packed), *access)),
+            } => {
+                let array = Kind::Array {
+                    interval: *interval,
+                    packed: *packed,
+                };
+                Some(executable(array, *access))
+            }
             Glance::Absent | Glance::Other => None,
         }
     }
@@ -107,17 +112,6 @@ fn executable(kind: Kind, access: Access) -> Object
     }
 }
 
-fn array(interval: Interval, packed: bool) -> Kind
-    ensures { result ≡ kind.Array interval.cell interval.start interval.len packed }
-{
-    Kind::Array {
-        cell: interval.cell,
-        start: interval.start,
-        len: interval.len,
-        packed,
-    }
-}
-
 fn of_executable(kind: &Kind, access: Access) -> Glance
     ensures { result ≡ glance_of_executable kind.now access }
 {
@@ -126,17 +120,8 @@ fn of_executable(kind: &Kind, access: Access) -> Glance
             Access::Unlimited => Glance::Operator(*op),
             _ => Glance::Other,
         },
-        Kind::Array {
-            cell,
-            start,
-            len,
-            packed,
-        } => Glance::Procedure {
-            interval: Interval {
-                cell: *cell,
-                start: *start,
-                len: *len,
-            },
+        Kind::Array { interval, packed } => Glance::Procedure {
+            interval: *interval,
             packed: *packed,
             access,
         },
