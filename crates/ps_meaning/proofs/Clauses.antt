@@ -12,7 +12,8 @@ use Rattle.ps_kinds.specs.declared.graphics.Layer.{Layer}
 use Rattle.ps_kinds.specs.declared.regs.Regs.{Regs}
 use Rattle.ps_kinds.specs.declared.regs.SaveMark.{SaveMark}
 use Rattle.ps_memory.specs.Memory.{is_global, newer, Cells, Memory, Slot, in_content, shape_at}
-use Rattle.ps_meaning.specs.Fits.{Shapes, FitsObject, FitsFound, cell_named, takes}
+use Rattle.ps_meaning.specs.Fits.{Shapes, FitsObject, FitsFound, takes}
+use Rattle.ps_objects.specs.Object.{cell_named}
 use Rattle.ps_meaning.specs.Sound.{without_newer, SoundCopy, SoundKept, SoundMemory}
 use Rattle.ps_meaning.specs.Registers.{FitsState, FitsLayers, SoundMarks, SoundRegisters, SoundState, size_of_page, world_of}
 use Rattle.ps_meaning.specs.Ready.{Fall}
