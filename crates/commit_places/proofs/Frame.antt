@@ -1,5 +1,5 @@
 -- One frame for each step that changes the status of one page and the view of one seat: all else stays.
-use Rattle.std.proofs.Common.{◌≡◌, ◌≢◌, ℕ, ◌+◌, ◌-◌, ◌<◌, ◌≤◌, ◌⊎◌, inl, inr, List, length, get_or, set, refl, sym, ap, ◌∙◌, subst, arith, ⊎_elim, [], ◌∷◌}
+use Rattle.std.proofs.Common.{◌≡◌, ◌≢◌, ℕ, ◌+◌, ◌-◌, ◌<◌, ◌≤◌, ◌⊎◌, inl, inr, List, length, get_or, set, refl, sym, ap, ◌∙◌, subst, arith, ⊎_elim, ◌∷◌}
 use Rattle.std.specs.Prelude.{Option}
 use mathlib.Core.Option.{some, none}
 use mathlib.Core.Option as maybe

@@ -112,8 +112,8 @@ module _ {C : Type 0} (right : ℕ → C → Type 0) (sizes : Sizes) (s : State 
       (λ q. omega (arith, sum_put (λ (u : View). times q (drawn_by u)) views other (Hand h) Joined there, sum_put (λ (u : View). times q (drawn_by u)) s.views 0 v w at, sum_by-append (λ (p : ℕ). if (p == q) then 1 else 0) h.drawn b.drawn))
       (λ q. omega (arith, sum_put (λ (u : View). times q (finished_by u)) views other (Hand h) Joined there, sum_put (λ (u : View). times q (finished_by u)) s.views 0 v w at, sum_by-append (λ (p : ℕ). if (p == q) then 1 else 0) h.finished b.finished))
       (λ j u e q. ⊎_elim (λ l. subst (Own q) l.1 (omega arith))
-          (λ r. ⊎_elim (λ y. subst (Own q) y.1 (let mine = k.own 0 v at q in let its = k.own other (Hand h) (sym (set_else s.views 0 other w apart) ∙ there) q in omega (arith, sum_by-append (λ (p : ℕ). if (p == q) then 1 else 0) h.drawn b.drawn, sum_by-append (λ (p : ℕ). if (p == q) then 1 else 0) h.finished b.finished)))
-              (λ y. k.own j u y.1 q) (at_set s.views 0 j w u r.1)) (at_set views other j Joined u e))
+      (λ r. ⊎_elim (λ y. subst (Own q) y.1 (let mine = k.own 0 v at q in let its = k.own other (Hand h) (sym (set_else s.views 0 other w apart) ∙ there) q in omega (arith, sum_by-append (λ (p : ℕ). if (p == q) then 1 else 0) h.drawn b.drawn, sum_by-append (λ (p : ℕ). if (p == q) then 1 else 0) h.finished b.finished)))
+      (λ y. k.own j u y.1 q) (at_set s.views 0 j w u r.1)) (at_set views other j Joined u e))
     where
       joined_committer : (c : CommitterView) → Joined ≡ Committer c → ⊥
       joined_committer c e = cc
@@ -193,12 +193,15 @@ opens {C} right sizes some_place small = record {
     none_at : (j : ℕ) → ticket_at views j ≡ Free
     none_at zero = refl
     none_at (suc j) = refl
+
     none_drawn : (q : ℕ) → 0 < q → sum_by (λ (u : View). times q (drawn_by u)) views ≡ draws_of (first_status q)
     none_drawn zero pos = absurd (omega arith)
     none_drawn (suc q) pos = refl
+
     none_finished : (q : ℕ) → 0 < q → sum_by (λ (u : View). times q (finished_by u)) views ≡ finishes_of (first_status q)
     none_finished zero pos = absurd (omega arith)
     none_finished (suc q) pos = refl
+
     own : (j : ℕ) (u : View) → get_elem? views j ≡ some u → (q : ℕ) → Own q u
     own zero u e q = subst (Own q) (some-injective (Committer (first_committer sizes)) u e) (omega arith)
     own (suc j) u e q = absurd (maybe.some-ne-none u (sym e))

@@ -1,5 +1,5 @@
 -- What each step makes of a seat's view, and what it tells.
-use Rattle.std.specs.Prelude.{◌≡◌, ℕ, ◌+◌, ◌-◌, ◌^◌, ◌<◌, ◌==◌, true, false, nat_le, if◌then◌else◌, ◌∷◌, ◌++◌, Option, Some, None, MatchBool, List, []}
+use Rattle.std.specs.Prelude.{◌≡◌, ℕ, ◌+◌, ◌-◌, ◌^◌, ◌<◌, ◌==◌, true, false, nat_le, if◌then◌else◌, ◌∷◌, ◌++◌, Option, Some, None, MatchBool, []}
 use Rattle.atomic_table.specs.Table.{Me, Step, rest}
 use Rattle.commit_places.specs.declared.view.Sizes.{Sizes}
 use Rattle.commit_places.specs.declared.view.Stage.TheVariants.{Drawn, Begun, Placing}
