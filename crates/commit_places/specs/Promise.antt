@@ -29,6 +29,10 @@ abbrev pub busy_count : (ℕ → Status) → ℕ → ℕ
 busy_count status zero = 0
 busy_count status (suc n) = busy_count status n + (if (is_busy (status (suc n))) then 1 else 0)
 
+-- no more than may be are
+abbrev pub FewBusy : Sizes → (ℕ → Status) → Type 0
+FewBusy sizes status = busy_count status sizes.pages ≤ sizes.ahead
+
 module _ {C : Type 0} (sizes : Sizes) (s : State (Option C) View) where
   -- how many pages are committed
   abbrev pub committed : ℕ

@@ -1,6 +1,9 @@
 -- What callers see of places, of hands and of the committer, and what the calls answer.
-use Rattle.std.specs.Prelude.{◌≡◌, ℕ, ◌+◌, ◌<◌, ◌≤◌, Bool, List, [], ◌∷◌, ◌++◌, true, false, nat_le, if◌then◌else◌}
+use Rattle.std.specs.Prelude.{◌≡◌, ℕ, ◌+◌, ◌<◌, ◌≤◌, Bool, List, [], ◌∷◌, ◌++◌, true, false, nat_le, if◌then◌else◌, Option}
+use Rattle.atomic_table.specs.Table.{Me}
 use Rattle.atomic_table.specs.Seated.{TableId}
+use Rattle.commit_places.specs.declared.view.View.{View}
+use Rattle.commit_places.specs.declared.view.View.TheVariants.{Hand}
 use Rattle.commit_places.specs.declared.view.Sizes.{Sizes}
 use Rattle.commit_places.specs.declared.view.Stage.TheVariants.{Drawn, Begun}
 use Rattle.commit_places.specs.declared.view.Ticket.{Ticket}
@@ -14,7 +17,7 @@ use Rattle.commit_places.specs.declared.answer.Draw.TheVariants.{Page, Over}
 use Rattle.commit_places.specs.declared.answer.Ready.{Ready}
 use Rattle.commit_places.specs.declared.answer.Ready.TheVariants.{Go, Later, Stopped}
 use Rattle.commit_places.specs.Rule.{mark}
-use Rattle.commit_places.specs.Steps.{page_of}
+use Rattle.commit_places.specs.Steps.{page_of, hand_of}
 
 -- which places, and their sizes
 pub record PlacesId : Type 0 where
@@ -46,6 +49,10 @@ pub record CommitterState : Type 0 where
   pub hands : ℕ
   pub drawn : List ℕ
   pub finished : List ℕ
+
+-- the seat is that of a hand which holds no slot, and whose page is this
+abbrev pub IsHandWith : {C : Type 0} → Me (Option C) View → ℕ → Type 0
+IsHandWith me page = (me ≡ (Hand (hand_of me.0), [])) × (page ≡ page_of (hand_of me.0).ticket)
 
 -- what callers see of a hand and of the committer that know this
 abbrev pub hand_state : TableId → HandView → HandState

@@ -1,8 +1,7 @@
 //! The promise of places. It is a function with no code: what it ensures is the law.
-ghost use Rattle.std.specs.Prelude.{◌≤◌};
 ghost use Rattle.atomic_table.specs.Table.{State};
 ghost use Rattle.commit_places.specs.Rule.{Kept};
-ghost use Rattle.commit_places.specs.Promise.{busy_count, DrawnOnce, FinishedOnce, FinishedByDrawer, OneHandEach, NotLaidYet, BegunNear, LiesRight, OverIsOver};
+ghost use Rattle.commit_places.specs.Promise.{FewBusy, DrawnOnce, FinishedOnce, FinishedByDrawer, OneHandEach, NotLaidYet, BegunNear, LiesRight, OverIsOver};
 ghost use Rattle.commit_places.specs.declared.view.Sizes.{Sizes};
 ghost use Rattle.commit_places.specs.declared.view.View.{View};
 
@@ -21,6 +20,6 @@ pub fn places_promise<T: PieceSpec>()
     ensures not_laid { (z : Sizes) (s : State _ View) → Kept T.right z s → NotLaidYet z s }
     ensures near { (z : Sizes) (s : State _ View) → Kept T.right z s → BegunNear z s }
     ensures right { (z : Sizes) (s : State _ View) → Kept T.right z s → LiesRight z s T.right }
-    ensures few { (z : Sizes) (s : State _ View) (k : Kept T.right z s) → busy_count k.status z.pages ≤ z.ahead }
+    ensures few { (z : Sizes) (s : State _ View) (k : Kept T.right z s) → FewBusy z k.status }
     ensures over { (z : Sizes) (s : State _ View) → Kept T.right z s → OverIsOver z s }
 {}

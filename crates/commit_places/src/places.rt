@@ -44,16 +44,14 @@ pub struct Hand<C> {
 }
 
 impl<C> Model for Hand<C> {
-    ghost use Rattle.std.specs.Prelude.{◌≡◌, []};
-    ghost use Rattle.commit_places.specs.Seats.{HandState, hand_state};
-    ghost use Rattle.commit_places.specs.Steps.{hand_of, page_of};
-    ghost use Rattle.commit_places.specs.declared.view.View.TheVariants.{Hand as a_hand};
+    ghost use Rattle.commit_places.specs.Seats.{HandState, hand_state, IsHandWith};
+    ghost use Rattle.commit_places.specs.Steps.{hand_of};
 
     ghost Value = { HandState };
 
     ghost view = { λ h. hand_state h.seat.table_id (hand_of h.seat.me.0) };
 
-    ghost invariant = { λ h. (h.seat.me ≡ (a_hand (hand_of h.seat.me.0), [])) × (h.page ≡ page_of (hand_of h.seat.me.0).ticket) };
+    ghost invariant = { λ h. IsHandWith h.seat.me h.page };
 }
 
 /// The seat of the one that takes the pieces in order and tells how many pages are committed. Contracts see its state.
