@@ -1,0 +1,42 @@
+//! Numbers as operands and as results.
+ghost use Rattle.std.specs.Prelude.{◌≡◌, ◌∷◌, OnOk, drop, ◌≤◌, length};
+ghost use Rattle.ps_operator.specs.Registers.{plain};
+ghost use Rattle.stack_arith.specs.Numbers as spec;
+
+use ps_fixed::Undefined;
+use ps_kinds::{ErrorName, Kind, NoMemory, Number, Objects, Real};
+use ps_operator::plain;
+
+/// The number as a real.
+pub(crate) fn as_real(number: Number) -> Real
+    ensures { result ≡ spec.as_real number }
+{
+    match number {
+        Number::Integer(n) => Real {
+            count: n as i64 * 16_777_216,
+        },
+        Number::Real(real) => real,
+    }
+}
+
+/// The real as a result: undefinedresult.
+pub(crate) fn defined(real: Result<Real, Undefined>) -> Result<Number, ErrorName>
+    ensures { result ≡ spec.defined real }
+{
+    match real {
+        Ok(real) => Ok(Number::Real(real)),
+        Err(_) => Err(ErrorName::UndefinedResult),
+    }
+}
+
+/// Puts a number in the place of the newest `n` operands.
+pub(crate) fn replace(operands: &mut Objects, n: usize, number: Number) -> Result<(), NoMemory>
+    requires { n ≤ length operands.old }
+    ensures { OnOk result (operands.new ≡ plain (spec.kind_of number) ∷ drop n operands.old) }
+{
+    operands.shrink(n);
+    match number {
+        Number::Integer(integer) => operands.push(plain(Kind::Integer(integer))),
+        Number::Real(real) => operands.push(plain(Kind::Real(real))),
+    }
+}
