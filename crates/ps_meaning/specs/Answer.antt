@@ -1,7 +1,7 @@
 -- What comes of an application on a state and a memory.
 use Rattle.std.specs.Prelude.{◌≡◌, ℕ, suc, ◌+◌, Bool, false, not, cond, List, [], ◌∷◌, ◌++◌, drop, Option, Some, None, option_map, Result, Ok, Err}
 use Rattle.ps_objects.specs.declared.cell.SaveName.{SaveName}
-use Rattle.ps_objects.specs.declared.error_name.ErrorName.{ErrorName}
+use Rattle.ps_names.specs.declared.error_name.ErrorName.{ErrorName}
 use Rattle.ps_objects.specs.declared.place.Loc.{Loc}
 use Rattle.ps_kinds.specs.declared.act.Act.{Act}
 use Rattle.ps_kinds.specs.declared.act.Act.TheVariants as act

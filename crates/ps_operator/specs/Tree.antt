@@ -1,6 +1,6 @@
 -- What operators are written with: trees that read, look and go on, and what a function over a memory owes them.
 use Rattle.std.specs.Prelude.{◌≡◌, List, [], Result, Ok, Err, ⊤}
-use Rattle.ps_objects.specs.declared.error_name.ErrorName.{ErrorName}
+use Rattle.ps_names.specs.declared.error_name.ErrorName.{ErrorName}
 use Rattle.ps_objects.specs.declared.refusal.Refusal.{Refusal}
 use Rattle.ps_objects.specs.declared.refusal.Refusal.TheVariants as refusal
 use Rattle.ps_kinds.specs.declared.act.Act.{Act}
