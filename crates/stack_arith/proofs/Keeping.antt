@@ -7,7 +7,7 @@ use Rattle.std.specs.List.{AllByRecursion}
 use Rattle.std.specs.Cmp.Lexicographic.{pointwise, slice_cmp}
 use Rattle.std.specs.Ordering.{nat_cmp, is_gt, is_ge, is_lt, is_le}
 use Rattle.std.specs.declared.cmp.Ordering.{Ordering}
-use Rattle.ps_objects.specs.declared.error_name.ErrorName.{ErrorName}
+use Rattle.ps_names.specs.declared.error_name.ErrorName.{ErrorName}
 use Rattle.ps_objects.specs.declared.object.Kind.{Kind}
 use Rattle.ps_objects.specs.declared.object.Kind.TheVariants as kind
 use Rattle.ps_objects.specs.declared.object.Object.{Object}
@@ -15,20 +15,24 @@ use Rattle.ps_objects.specs.declared.objects.Interval.{Interval}
 use Rattle.ps_objects.specs.declared.objects.Number.{Number}
 use Rattle.ps_objects.specs.declared.objects.Number.TheVariants as number
 use Rattle.ps_objects.specs.Operands.{needed, room_for, object_at, integer_at, number_at, string_at, readable_at}
-use Rattle.ps_objects.specs.Turned.{rolled}
+use Rattle.copy_lists.specs.Turned.{rolled}
 use Rattle.ps_kinds.specs.declared.state.State.{State}
-use Rattle.ps_meaning.specs.Fits.{Shapes, FitsCell, FitsObject, cell_named, takes}
+use Rattle.ps_objects.specs.Object.{cell_named}
+use Rattle.ps_meaning.specs.Fits.{Shapes, FitsCell, FitsObject, takes}
+use Rattle.ps_meaning.specs.Ready.{Fits}
 use Rattle.ps_meaning.specs.Sound.{World}
 use Rattle.ps_operator.specs.Tree.{Ask, read, look_then, found}
 use Rattle.ps_operator.specs.Keys.{bytes_of, key_right_of}
 use Rattle.ps_operator.specs.Lawful.{Keeps, IsLawful}
 use Rattle.ps_operator.specs.Numbers.{natural_of}
-use Rattle.ps_operator.specs.Registers.{ops, plain}
+use Rattle.ps_operator.specs.Registers.{ops, literal}
 use Rattle.ps_operator.proofs.Fitting.{Fit, drop_fits, rolled_fits, object_fits, string_fits, string_kind}
 use Rattle.ps_operator.proofs.Growing.{rand_stored_keeps}
 use Rattle.ps_operator.proofs.Lawful.{AreBytes, read_keeps, rand_keeps, leaves_keeps}
 use Rattle.stack_arith.proofs.Finding.{Finds, Any, found_finds, read_finds, then_finds, finds_any, bytes_find, finding_keeps}
-use Rattle.stack_arith.specs.Stack.{pop, exch, dup, count, clear, index, turn, roll, mark, above_mark, cleartomark, counttomark}
+use Rattle.stack_arith.specs.Stack.{pop, exch, dup, count, clear, index, turn, roll, mark, cleartomark, counttomark}
+use Rattle.ps_operator.specs.Marks.{above_mark}
+use Rattle.ps_operator.specs.Operators.{Operators, run_in, AreLawful}
 use Rattle.stack_arith.specs.Numbers.{kind_of, of_one, of_two, of_integers}
 use Rattle.stack_arith.specs.Arithmetic.{sum, difference, product, quotient, whole_quotient, remainder}
 use Rattle.stack_arith.specs.Rounding.{magnitude, negative, rounded_up, rounded_down, rounded_to_nearest, without_fraction}
@@ -36,7 +40,7 @@ use Rattle.stack_arith.specs.Functions.{root, sine, cosine, angle}
 use Rattle.stack_arith.specs.Random.{next_rand, rand, or_one, seed_of, srand, rrand}
 use Rattle.stack_arith.specs.Comparison.{is_text, text_of, same, same_text, equal, equality, is_string, string_order, values_order, number_order, order, comparison}
 use Rattle.stack_arith.specs.Bits.{joined, conjunction, disjunction, exclusion, of_kinds, opposite, not_, shifted}
-use Rattle.stack_arith.specs.Operators.{operators, run_of, run}
+use Rattle.stack_arith.specs.Operators.{operators, run}
 
 -- ---- operands move
 
@@ -61,7 +65,7 @@ dup_keeps text s W f =
 count_keeps : IsLawful count
 count_keeps text s W f =
     read_keeps (room_for 1 (ops s)) (λ _ _.
-    leaves_keeps f (plain (kind.Integer (pos (length (ops s)))) ∷ ops s) (tt, f.state.registers.operands))
+    leaves_keeps f (literal (kind.Integer (pos (length (ops s)))) ∷ ops s) (tt, f.state.registers.operands))
 
 clear_keeps : IsLawful clear
 clear_keeps text s W f = leaves_keeps f [] tt
@@ -88,7 +92,7 @@ roll_keeps text s W f =
 
 mark_keeps : IsLawful mark
 mark_keeps text s W f =
-    read_keeps (room_for 1 (ops s)) (λ _ _. leaves_keeps f (plain kind.Mark ∷ ops s) (tt, f.state.registers.operands))
+    read_keeps (room_for 1 (ops s)) (λ _ _. leaves_keeps f (literal kind.Mark ∷ ops s) (tt, f.state.registers.operands))
 
 cleartomark_keeps : IsLawful cleartomark
 cleartomark_keeps text s W f =
@@ -99,11 +103,11 @@ counttomark_keeps : IsLawful counttomark
 counttomark_keeps text s W f =
     read_keeps (above_mark (ops s)) (λ n _.
     read_keeps (room_for 1 (ops s)) (λ _ _.
-    leaves_keeps f (plain (kind.Integer (pos n)) ∷ ops s) (tt, f.state.registers.operands)))
+    leaves_keeps f (literal (kind.Integer (pos n)) ∷ ops s) (tt, f.state.registers.operands)))
 
 -- ---- numbers
 
-number_fits : (K : Shapes) (r : Number) → FitsObject K (plain (kind_of r))
+number_fits : (K : Shapes) (r : Number) → FitsObject K (literal (kind_of r))
 number_fits K (number.Integer n) = tt
 number_fits K (number.Real r) = tt
 
@@ -112,7 +116,7 @@ one_keeps g text s W f =
     read_keeps (needed 1 (ops s)) (λ _ _.
     read_keeps (number_at 0 (ops s)) (λ a _.
     read_keeps (g a) (λ r _.
-    leaves_keeps f (plain (kind_of r) ∷ drop 1 (ops s)) (number_fits W.shapes r, drop_fits W.shapes 1 (ops s) f.state.registers.operands))))
+    leaves_keeps f (literal (kind_of r) ∷ drop 1 (ops s)) (number_fits W.shapes r, drop_fits W.shapes 1 (ops s) f.state.registers.operands))))
 
 two_keep : (g : Number → Number → Result Number ErrorName) → IsLawful (of_two g)
 two_keep g text s W f =
@@ -120,7 +124,7 @@ two_keep g text s W f =
     read_keeps (number_at 0 (ops s)) (λ b _.
     read_keeps (number_at 1 (ops s)) (λ a _.
     read_keeps (g a b) (λ r _.
-    leaves_keeps f (plain (kind_of r) ∷ drop 2 (ops s)) (number_fits W.shapes r, drop_fits W.shapes 2 (ops s) f.state.registers.operands)))))
+    leaves_keeps f (literal (kind_of r) ∷ drop 2 (ops s)) (number_fits W.shapes r, drop_fits W.shapes 2 (ops s) f.state.registers.operands)))))
 
 integers_keep : (g : ℤ → ℤ → Result ℤ ErrorName) → IsLawful (of_integers g)
 integers_keep g text s W f =
@@ -128,7 +132,7 @@ integers_keep g text s W f =
     read_keeps (integer_at 0 (ops s)) (λ b _.
     read_keeps (integer_at 1 (ops s)) (λ a _.
     read_keeps (g a b) (λ n _.
-    leaves_keeps f (plain (kind.Integer n) ∷ drop 2 (ops s)) (tt, drop_fits W.shapes 2 (ops s) f.state.registers.operands)))))
+    leaves_keeps f (literal (kind.Integer n) ∷ drop 2 (ops s)) (tt, drop_fits W.shapes 2 (ops s) f.state.registers.operands)))))
 
 -- ---- random numbers
 
@@ -142,7 +146,7 @@ rand_keeps_state : IsLawful rand
 rand_keeps_state text s W f =
     read_keeps (room_for 1 (ops s)) (λ _ _.
     rand_keeps (λ x p q.
-    rand_stored_keeps f (next_rand x) (plain (kind.Integer (pos (next_rand x))) ∷ ops s) (next_above x p q) (next_below x) (tt, f.state.registers.operands)))
+    rand_stored_keeps f (next_rand x) (literal (kind.Integer (pos (next_rand x))) ∷ ops s) (next_above x p q) (next_below x) (tt, f.state.registers.operands)))
 
 or_one_above : (n : ℕ) → 0 < or_one n
 or_one_above n = grind (arith, nat_tests)
@@ -170,14 +174,12 @@ rrand_keeps : IsLawful rrand
 rrand_keeps text s W f =
     read_keeps (room_for 1 (ops s)) (λ _ _.
     rand_keeps (λ x _ _.
-    leaves_keeps f (plain (kind.Integer (pos x)) ∷ ops s) (tt, f.state.registers.operands)))
+    leaves_keeps f (literal (kind.Integer (pos x)) ∷ ops s) (tt, f.state.registers.operands)))
 
 -- ---- comparison
 
 text_finds : (W : World) (k : Kind) → FitsCell W.shapes (cell_named k) (takes k) → Finds W Any (text_of k)
-text_finds W (kind.Str c start len) h =
-    let a : Interval = record { cell = c; start = start; len = len } in
-    finds_any (bytes_of a) (bytes_find (string_kind W.shapes (kind.Str c start len) a h refl))
+text_finds W (kind.Str a) h = finds_any (bytes_of a) (bytes_find (string_kind W.shapes (kind.Str a) a h refl))
 text_finds W (kind.Name n) h = found_finds Any n tt
 text_finds W _ h = found_finds Any [] tt
 
@@ -203,7 +205,7 @@ equality_keeps g text s W f =
     read_keeps (object_at 0 (ops s)) (λ y p.
     read_keeps (object_at 1 (ops s)) (λ x q.
     finding_keeps Any (equal x y) (equal_finds W x y (object_fits W.shapes (ops s) 1 x o q) (object_fits W.shapes (ops s) 0 y o p)) (λ b _.
-    leaves_keeps f (plain (kind.Boolean (g b)) ∷ drop 2 (ops s)) (tt, drop_fits W.shapes 2 (ops s) o)))))
+    leaves_keeps f (literal (kind.Boolean (g b)) ∷ drop 2 (ops s)) (tt, drop_fits W.shapes 2 (ops s) o)))))
 
 string_order_finds : (W : World) (xs : List Object) → Fit W.shapes xs → Finds W Any (string_order xs)
 string_order_finds W xs o =
@@ -233,26 +235,26 @@ comparison_keeps test text s W f =
     let o : Fit W.shapes (ops s) = f.state.registers.operands in
     read_keeps (needed 2 (ops s)) (λ _ _.
     finding_keeps Any (order (ops s)) (order_finds W (ops s) o) (λ r _.
-    leaves_keeps f (plain (kind.Boolean (test r)) ∷ drop 2 (ops s)) (tt, drop_fits W.shapes 2 (ops s) o)))
+    leaves_keeps f (literal (kind.Boolean (test r)) ∷ drop 2 (ops s)) (tt, drop_fits W.shapes 2 (ops s) o)))
 
 -- ---- booleans and bits
 
-joined_fits : (K : Shapes) (f : Bool → Bool → Bool) (g : ℤ → ℤ → ℤ) (x y k : Kind) → joined f g x y ≡ Ok k → FitsObject K (plain k)
-joined_fits K f g (kind.Boolean a) (kind.Boolean b) k e = let p : kind.Boolean (f a b) ≡ k = cc in subst (λ k. FitsObject K (plain k)) p tt
-joined_fits K f g (kind.Integer a) (kind.Integer b) k e = let p : kind.Integer (g a b) ≡ k = cc in subst (λ k. FitsObject K (plain k)) p tt
+joined_fits : (K : Shapes) (f : Bool → Bool → Bool) (g : ℤ → ℤ → ℤ) (x y k : Kind) → joined f g x y ≡ Ok k → FitsObject K (literal k)
+joined_fits K f g (kind.Boolean a) (kind.Boolean b) k e = let p : kind.Boolean (f a b) ≡ k = cc in subst (λ k. FitsObject K (literal k)) p tt
+joined_fits K f g (kind.Integer a) (kind.Integer b) k e = let p : kind.Integer (g a b) ≡ k = cc in subst (λ k. FitsObject K (literal k)) p tt
 joined_fits K f g _ _ k e = cc
 
-kinds_keep : (g : Kind → Kind → Result Kind ErrorName) → ((K : Shapes) (x y k : Kind) → g x y ≡ Ok k → FitsObject K (plain k)) → IsLawful (of_kinds g)
+kinds_keep : (g : Kind → Kind → Result Kind ErrorName) → ((K : Shapes) (x y k : Kind) → g x y ≡ Ok k → FitsObject K (literal k)) → IsLawful (of_kinds g)
 kinds_keep g h text s W f =
     read_keeps (needed 2 (ops s)) (λ _ _.
     read_keeps (object_at 0 (ops s)) (λ y _.
     read_keeps (object_at 1 (ops s)) (λ x _.
     read_keeps (g x.kind y.kind) (λ k e.
-    leaves_keeps f (plain k ∷ drop 2 (ops s)) (h W.shapes x.kind y.kind k e, drop_fits W.shapes 2 (ops s) f.state.registers.operands)))))
+    leaves_keeps f (literal k ∷ drop 2 (ops s)) (h W.shapes x.kind y.kind k e, drop_fits W.shapes 2 (ops s) f.state.registers.operands)))))
 
-opposite_fits : (K : Shapes) (x k : Kind) → opposite x ≡ Ok k → FitsObject K (plain k)
-opposite_fits K (kind.Boolean b) k e = let p : kind.Boolean (not b) ≡ k = cc in subst (λ k. FitsObject K (plain k)) p tt
-opposite_fits K (kind.Integer n) k e = let p : kind.Integer (int_bit_not w32 n) ≡ k = cc in subst (λ k. FitsObject K (plain k)) p tt
+opposite_fits : (K : Shapes) (x k : Kind) → opposite x ≡ Ok k → FitsObject K (literal k)
+opposite_fits K (kind.Boolean b) k e = let p : kind.Boolean (not b) ≡ k = cc in subst (λ k. FitsObject K (literal k)) p tt
+opposite_fits K (kind.Integer n) k e = let p : kind.Integer (int_bit_not w32 n) ≡ k = cc in subst (λ k. FitsObject K (literal k)) p tt
 opposite_fits K _ k e = cc
 
 not_keeps : IsLawful not_
@@ -260,7 +262,7 @@ not_keeps text s W f =
     read_keeps (needed 1 (ops s)) (λ _ _.
     read_keeps (object_at 0 (ops s)) (λ x _.
     read_keeps (opposite x.kind) (λ k e.
-    leaves_keeps f (plain k ∷ drop 1 (ops s)) (opposite_fits W.shapes x.kind k e, drop_fits W.shapes 1 (ops s) f.state.registers.operands))))
+    leaves_keeps f (literal k ∷ drop 1 (ops s)) (opposite_fits W.shapes x.kind k e, drop_fits W.shapes 1 (ops s) f.state.registers.operands))))
 
 -- ---- all of them
 
@@ -268,7 +270,7 @@ infixr 5 ◌▹◌
 ◌▹◌ : {P Q : Type 0} → P → Q → P × Q
 p ▹ q = (p, q)
 
-all_keep : AllByRecursion IsLawful operators
+all_keep : AreLawful operators
 all_keep =
     pop_keeps ▹ exch_keeps ▹ dup_keeps ▹ count_keeps ▹ clear_keeps ▹ index_keeps ▹ roll_keeps
     ▹ mark_keeps ▹ mark_keeps ▹ mark_keeps ▹ cleartomark_keeps ▹ counttomark_keeps
@@ -285,10 +287,13 @@ all_keep =
     ▹ kinds_keep exclusion (λ K. joined_fits K (λ a b. not (beq a b)) (int_bit_xor w32))
     ▹ not_keeps ▹ integers_keep (λ n by. Ok (shifted n by)) ▹ tt
 
-among : (ts : List (State → Ask)) (n : ℕ) → AllByRecursion IsLawful ts → IsLawful (run_of ts n)
+among : (ts : Operators) (n : ℕ) → AreLawful ts → IsLawful (run_in ts n)
 among [] n h = λ text s W f. record { lawful = tt }
-among (t ∷ ts) zero h = h.0
-among (t ∷ ts) (suc n) h = among ts n h.1
+among (t ∷ ts) n h = λ text s W f. go (nat_eq n t.0) text s W f (h.0 text s W f) (among ts n h.1 text s W f)
+  where
+    go : (b : Bool) (text : List ℕ) (s : State) (W : World) → Fits text W s → Keeps text 4 s.frames (t.1 s) s W → Keeps text 4 s.frames (run_in ts n s) s W → Keeps text 4 s.frames (cond b (t.1 s) (run_in ts n s)) s W
+    go true text s W f x y = x
+    go false text s W f x y = y
 
 pub run_keeps : (n : ℕ) → IsLawful (run n)
 run_keeps n = among operators n all_keep

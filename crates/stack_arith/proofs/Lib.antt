@@ -1,4 +1,3 @@
-pub mod Marks
 pub mod Shifts
 pub mod Finding
 pub mod Keeping

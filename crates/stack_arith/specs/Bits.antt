@@ -4,14 +4,14 @@ use Rattle.std.specs.Prelude.{Bool, true, false, not, ◌&&◌, ◌||◌, Result
 use Rattle.std.specs.Bool.{beq}
 use Rattle.std.specs.Int.{w32, cast_signed, cast_unsigned}
 use Rattle.std.specs.Int.{int_bit_and, int_bit_or, int_bit_xor, int_bit_not}
-use Rattle.ps_objects.specs.declared.error_name.ErrorName.{ErrorName}
-use Rattle.ps_objects.specs.declared.error_name.ErrorName.TheVariants.{TypeCheck}
+use Rattle.ps_names.specs.declared.error_name.ErrorName.{ErrorName}
+use Rattle.ps_names.specs.declared.error_name.ErrorName.TheVariants.{TypeCheck}
 use Rattle.ps_objects.specs.declared.object.Kind.{Kind}
 use Rattle.ps_objects.specs.declared.object.Kind.TheVariants as kind
 use Rattle.ps_objects.specs.Operands.{needed, object_at}
 use Rattle.ps_kinds.specs.declared.state.State.{State}
 use Rattle.ps_operator.specs.Tree.{Ask, read}
-use Rattle.ps_operator.specs.Registers.{ops, plain, leaves}
+use Rattle.ps_operator.specs.Registers.{ops, literal, leaves}
 use Rattle.stack_arith.specs.Numbers.{of_integers}
 
 -- two booleans by f, two integers by g
@@ -37,7 +37,7 @@ of_kinds f s =
     read (object_at 0 (ops s)) (λ y.
     read (object_at 1 (ops s)) (λ x.
     read (f x.kind y.kind) (λ k.
-    leaves s (plain k ∷ drop 2 (ops s))))))
+    leaves s (literal k ∷ drop 2 (ops s))))))
 
 abbrev pub and : State → Ask
 and = of_kinds conjunction
@@ -59,7 +59,7 @@ not_ s =
     read (needed 1 (ops s)) (λ _.
     read (object_at 0 (ops s)) (λ x.
     read (opposite x.kind) (λ k.
-    leaves s (plain k ∷ drop 1 (ops s)))))
+    leaves s (literal k ∷ drop 1 (ops s)))))
 
 -- 32 bits so many places to the left: those that leave are lost, and zeros come in
 abbrev pub left_by : ℕ → ℕ → ℕ

@@ -17,7 +17,7 @@ use Rattle.ps_kinds.specs.declared.state.State.{State}
 use Rattle.ps_memory.specs.Tree.{Application}
 use Rattle.ps_operator.specs.Tree.{Ask, read, look_then, found}
 use Rattle.ps_operator.specs.Keys.{bytes_of, key_right_of}
-use Rattle.ps_operator.specs.Registers.{ops, plain, leaves}
+use Rattle.ps_operator.specs.Registers.{ops, literal, leaves}
 use Rattle.stack_arith.specs.Numbers.{as_real}
 
 -- ---- equality of objects that are no texts
@@ -30,7 +30,7 @@ count_of _ = None
 
 -- the interval of an array, packed or not
 abbrev pub items_of : Kind → Option Interval
-items_of (kind.Array c start len packed) = Some (record { cell = c; start = start; len = len })
+items_of (kind.Array a packed) = Some a
 items_of _ = None
 
 -- the test of two that are there, and else another
@@ -48,13 +48,13 @@ same x y =
 
 -- a string or a name
 abbrev pub is_text : Kind → Bool
-is_text (kind.Str c start len) = true
+is_text (kind.Str a) = true
 is_text (kind.Name n) = true
 is_text _ = false
 
 -- the bytes of a text; a string is looked at whole
 abbrev pub text_of : Kind → Application (List ℕ)
-text_of (kind.Str c start len) = bytes_of (record { cell = c; start = start; len = len })
+text_of (kind.Str a) = bytes_of a
 text_of (kind.Name n) = found n
 text_of _ = found []
 
@@ -76,7 +76,7 @@ equality f s =
     read (object_at 0 (ops s)) (λ y.
     read (object_at 1 (ops s)) (λ x.
     look_then (equal x y) (λ b.
-    leaves s (plain (kind.Boolean (f b)) ∷ drop 2 (ops s))))))
+    leaves s (literal (kind.Boolean (f b)) ∷ drop 2 (ops s))))))
 
 abbrev pub eq : State → Ask
 eq = equality (λ b. b)
@@ -87,7 +87,7 @@ ne = equality not
 -- ---- order
 
 abbrev pub is_string : Kind → Bool
-is_string (kind.Str c start len) = true
+is_string (kind.Str a) = true
 is_string _ = false
 
 -- two strings by their bytes, which are looked at whole, from the top operand down
@@ -119,7 +119,7 @@ abbrev pub comparison : (Ordering → Bool) → State → Ask
 comparison test s =
     read (needed 2 (ops s)) (λ _.
     look_then (order (ops s)) (λ o.
-    leaves s (plain (kind.Boolean (test o)) ∷ drop 2 (ops s))))
+    leaves s (literal (kind.Boolean (test o)) ∷ drop 2 (ops s))))
 
 abbrev pub gt : State → Ask
 gt = comparison is_gt

@@ -3,8 +3,8 @@ use Rattle.std.specs.Prelude.{ℤ, pos, int_le, if◌then◌else◌, Result, Ok,
 use Rattle.ps_shapes.specs.declared.numbers.Real.{Real}
 use Rattle.ps_fixed.specs.Angles.{sine_of, cosine_of, arc_tangent}
 use Rattle.ps_fixed.specs.Roots.{root_of}
-use Rattle.ps_objects.specs.declared.error_name.ErrorName.{ErrorName}
-use Rattle.ps_objects.specs.declared.error_name.ErrorName.TheVariants.{RangeCheck}
+use Rattle.ps_names.specs.declared.error_name.ErrorName.{ErrorName}
+use Rattle.ps_names.specs.declared.error_name.ErrorName.TheVariants.{RangeCheck}
 use Rattle.ps_objects.specs.declared.objects.Number.{Number}
 use Rattle.ps_objects.specs.declared.objects.Number.TheVariants as number
 use Rattle.ps_kinds.specs.declared.state.State.{State}

@@ -1,4 +1,3 @@
-pub mod Done
 pub mod Stack
 pub mod Numbers
 pub mod Arithmetic

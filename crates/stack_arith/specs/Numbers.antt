@@ -3,8 +3,8 @@ use Rattle.std.specs.Prelude.{ℤ, pos, negsuc, ◌*ℤ◌, ◌&&◌, Bool, int_
 use Rattle.std.specs.Prelude.{[], ◌∷◌, drop, Result, Ok, Err}
 use Rattle.ps_shapes.specs.declared.numbers.Real.{Real}
 use Rattle.ps_fixed.specs.declared.rounding.Undefined.{Undefined}
-use Rattle.ps_objects.specs.declared.error_name.ErrorName.{ErrorName}
-use Rattle.ps_objects.specs.declared.error_name.ErrorName.TheVariants.{UndefinedResult}
+use Rattle.ps_names.specs.declared.error_name.ErrorName.{ErrorName}
+use Rattle.ps_names.specs.declared.error_name.ErrorName.TheVariants.{UndefinedResult}
 use Rattle.ps_objects.specs.declared.object.Kind.{Kind}
 use Rattle.ps_objects.specs.declared.object.Kind.TheVariants as kind
 use Rattle.ps_objects.specs.declared.objects.Number.{Number}
@@ -12,7 +12,7 @@ use Rattle.ps_objects.specs.declared.objects.Number.TheVariants as number
 use Rattle.ps_objects.specs.Operands.{needed, number_at, integer_at}
 use Rattle.ps_kinds.specs.declared.state.State.{State}
 use Rattle.ps_operator.specs.Tree.{Ask, read}
-use Rattle.ps_operator.specs.Registers.{ops, plain, leaves}
+use Rattle.ps_operator.specs.Registers.{ops, literal, leaves}
 
 -- the number as a real
 abbrev pub as_real : Number → Real
@@ -43,7 +43,7 @@ of_one f s =
     read (needed 1 (ops s)) (λ _.
     read (number_at 0 (ops s)) (λ a.
     read (f a) (λ r.
-    leaves s (plain (kind_of r) ∷ drop 1 (ops s)))))
+    leaves s (literal (kind_of r) ∷ drop 1 (ops s)))))
 
 -- two numbers give one in their place
 abbrev pub of_two : (Number → Number → Result Number ErrorName) → State → Ask
@@ -52,7 +52,7 @@ of_two f s =
     read (number_at 0 (ops s)) (λ b.
     read (number_at 1 (ops s)) (λ a.
     read (f a b) (λ r.
-    leaves s (plain (kind_of r) ∷ drop 2 (ops s))))))
+    leaves s (literal (kind_of r) ∷ drop 2 (ops s))))))
 
 -- two integers give one in their place
 abbrev pub of_integers : (ℤ → ℤ → Result ℤ ErrorName) → State → Ask
@@ -61,4 +61,4 @@ of_integers f s =
     read (integer_at 0 (ops s)) (λ b.
     read (integer_at 1 (ops s)) (λ a.
     read (f a b) (λ n.
-    leaves s (plain (kind.Integer n) ∷ drop 2 (ops s))))))
+    leaves s (literal (kind.Integer n) ∷ drop 2 (ops s))))))

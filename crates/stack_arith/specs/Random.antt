@@ -10,7 +10,7 @@ use Rattle.ps_kinds.specs.declared.state.State.{State}
 use Rattle.ps_memory.specs.Tree.{done, puts}
 use Rattle.ps_operator.specs.Tree.{Ask, read}
 use Rattle.ps_operator.specs.Looks.{look_rand}
-use Rattle.ps_operator.specs.Registers.{ops, plain, with_ops, quiet, leaves}
+use Rattle.ps_operator.specs.Registers.{ops, literal, with_ops, quiet, leaves}
 
 -- the state after x; both lie from 1 to 2^31 - 2
 abbrev pub next_rand : ℕ → ℕ
@@ -22,7 +22,7 @@ rand s =
     read (room_for 1 (ops s)) (λ _.
     look_rand (λ x.
     done (puts loc.Rand (value.Rand (next_rand x)) ∷ [])
-    (quiet (with_ops s (plain (kind.Integer (pos (next_rand x))) ∷ ops s)))))
+    (quiet (with_ops s (literal (kind.Integer (pos (next_rand x))) ∷ ops s)))))
 
 abbrev pub or_one : ℕ → ℕ
 or_one n = if nat_eq n 0 then 1 else n
@@ -42,4 +42,4 @@ srand s =
 abbrev pub rrand : State → Ask
 rrand s =
     read (room_for 1 (ops s)) (λ _.
-    look_rand (λ x. leaves s (plain (kind.Integer (pos x)) ∷ ops s)))
+    look_rand (λ x. leaves s (literal (kind.Integer (pos x)) ∷ ops s)))

@@ -2,7 +2,7 @@
 use Rattle.std.specs.Prelude.{ℤ, pos, ◌+ℤ◌, ◌*ℤ◌, neg_ℤ, int_div, unsigned_abs, Result, Ok, ◌^◌}
 use Rattle.ps_shapes.specs.declared.numbers.Real.{Real}
 use Rattle.ps_fixed.specs.Rounding.{floor_of, real_of}
-use Rattle.ps_objects.specs.declared.error_name.ErrorName.{ErrorName}
+use Rattle.ps_names.specs.declared.error_name.ErrorName.{ErrorName}
 use Rattle.ps_objects.specs.declared.objects.Number.{Number}
 use Rattle.ps_objects.specs.declared.objects.Number.TheVariants as number
 use Rattle.ps_kinds.specs.declared.state.State.{State}

@@ -1,17 +1,14 @@
 -- The operators on the operand stack (section 3.9.1 of the language manual).
-use Rattle.std.specs.Prelude.{ℕ, ℤ, pos, negsuc, ◌+◌, ◌-◌, ◌%◌, List, [], ◌∷◌, length, drop}
-use Rattle.std.specs.Prelude.{Bool, true, false, nat_eq, if◌then◌else◌, Result, Ok, Err}
-use Rattle.ps_objects.specs.declared.error_name.ErrorName.{ErrorName}
-use Rattle.ps_objects.specs.declared.error_name.ErrorName.TheVariants.{UnmatchedMark}
-use Rattle.ps_objects.specs.declared.object.Kind.{Kind}
+use Rattle.std.specs.Prelude.{ℕ, ℤ, pos, negsuc, ◌+◌, ◌-◌, ◌%◌, [], ◌∷◌, length, drop}
+use Rattle.std.specs.Prelude.{nat_eq, if◌then◌else◌}
 use Rattle.ps_objects.specs.declared.object.Kind.TheVariants as kind
-use Rattle.ps_objects.specs.declared.object.Object.{Object}
 use Rattle.ps_objects.specs.Operands.{needed, room_for, object_at, integer_at}
-use Rattle.ps_objects.specs.Turned.{rolled}
+use Rattle.copy_lists.specs.Turned.{rolled}
 use Rattle.ps_kinds.specs.declared.state.State.{State}
 use Rattle.ps_operator.specs.Tree.{Ask, read}
+use Rattle.ps_operator.specs.Marks.{above_mark}
 use Rattle.ps_operator.specs.Numbers.{natural_of}
-use Rattle.ps_operator.specs.Registers.{ops, plain, leaves}
+use Rattle.ps_operator.specs.Registers.{ops, literal, leaves}
 
 -- takes the newest away
 abbrev pub pop : State → Ask
@@ -33,7 +30,7 @@ dup s =
 abbrev pub count : State → Ask
 count s =
     read (room_for 1 (ops s)) (λ _.
-    leaves s (plain (kind.Integer (pos (length (ops s)))) ∷ ops s))
+    leaves s (literal (kind.Integer (pos (length (ops s)))) ∷ ops s))
 
 -- takes all away
 abbrev pub clear : State → Ask
@@ -72,19 +69,7 @@ roll s =
 
 -- a new mark: what `mark`, `[` and `<<` do
 abbrev pub mark : State → Ask
-mark s = read (room_for 1 (ops s)) (λ _. leaves s (plain kind.Mark ∷ ops s))
-
-abbrev pub is_mark : Kind → Bool
-is_mark kind.Mark = true
-is_mark _ = false
-
--- how many operands lie above the newest mark, n more than of these: unmatchedmark where there is none
-abbrev pub above_mark_from : ℕ → List Object → Result ℕ ErrorName
-above_mark_from n [] = Err UnmatchedMark
-above_mark_from n (x ∷ xs) = if is_mark x.kind then Ok n else above_mark_from (n + 1) xs
-
-abbrev pub above_mark : List Object → Result ℕ ErrorName
-above_mark = above_mark_from 0
+mark s = read (room_for 1 (ops s)) (λ _. leaves s (literal kind.Mark ∷ ops s))
 
 -- takes the newest mark away, and all above it
 abbrev pub cleartomark : State → Ask
@@ -95,4 +80,4 @@ abbrev pub counttomark : State → Ask
 counttomark s =
     read (above_mark (ops s)) (λ n.
     read (room_for 1 (ops s)) (λ _.
-    leaves s (plain (kind.Integer (pos n)) ∷ ops s)))
+    leaves s (literal (kind.Integer (pos n)) ∷ ops s)))

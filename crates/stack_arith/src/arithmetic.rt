@@ -1,11 +1,11 @@
 //! Sums, differences, products and quotients (section 3.9.2 of the language manual).
 ghost use Rattle.std.specs.Prelude.{◌≡◌};
-ghost use Rattle.stack_arith.specs.Done.{TellsDone};
+ghost use Rattle.ps_operator.specs.Owes.{DoesAlone};
 ghost use Rattle.stack_arith.specs.Arithmetic as spec;
 
-use crate::numbers::{as_real, defined, replace};
-use ps_kinds::{ErrorName, Kind, Number, Refusal, State};
-use ps_operator::plain;
+use crate::numbers::{as_real, defined, push_number};
+use ps_kinds::{ErrorName, Kind, Number, Operands, Refusal, State};
+use ps_operator::push_result;
 
 fn sum(a: Number, b: Number) -> Result<Number, ErrorName>
     ensures { result ≡ spec.sum a b }
@@ -65,72 +65,70 @@ fn remainder(a: i32, b: i32) -> Result<i32, ErrorName>
 }
 
 pub(crate) fn add(state: &mut State) -> Result<(), Refusal>
-    ensures { TellsDone (spec.add state.old) state.old result state.new }
+    ensures { DoesAlone spec.add state.old result state.new }
 {
     let operands = &mut state.regs.operands;
     operands.need(2)?;
     let b = operands.number(0)?;
     let a = operands.number(1)?;
-    replace(operands, 2, sum(a, b)?)?;
+    push_number(operands, 2, sum(a, b)?)?;
     Ok(())
 }
 
 pub(crate) fn sub(state: &mut State) -> Result<(), Refusal>
-    ensures { TellsDone (spec.sub state.old) state.old result state.new }
+    ensures { DoesAlone spec.sub state.old result state.new }
 {
     let operands = &mut state.regs.operands;
     operands.need(2)?;
     let b = operands.number(0)?;
     let a = operands.number(1)?;
-    replace(operands, 2, difference(a, b)?)?;
+    push_number(operands, 2, difference(a, b)?)?;
     Ok(())
 }
 
 pub(crate) fn mul(state: &mut State) -> Result<(), Refusal>
-    ensures { TellsDone (spec.mul state.old) state.old result state.new }
+    ensures { DoesAlone spec.mul state.old result state.new }
 {
     let operands = &mut state.regs.operands;
     operands.need(2)?;
     let b = operands.number(0)?;
     let a = operands.number(1)?;
-    replace(operands, 2, product(a, b)?)?;
+    push_number(operands, 2, product(a, b)?)?;
     Ok(())
 }
 
 pub(crate) fn div(state: &mut State) -> Result<(), Refusal>
-    ensures { TellsDone (spec.div state.old) state.old result state.new }
+    ensures { DoesAlone spec.div state.old result state.new }
 {
     let operands = &mut state.regs.operands;
     operands.need(2)?;
     let b = operands.number(0)?;
     let a = operands.number(1)?;
     let quotient = defined(ps_fixed::div(as_real(a), as_real(b)))?;
-    replace(operands, 2, quotient)?;
+    push_number(operands, 2, quotient)?;
     Ok(())
 }
 
 pub(crate) fn idiv(state: &mut State) -> Result<(), Refusal>
-    ensures { TellsDone (spec.idiv state.old) state.old result state.new }
+    ensures { DoesAlone spec.idiv state.old result state.new }
 {
     let operands = &mut state.regs.operands;
     operands.need(2)?;
     let b = operands.integer(0)?;
     let a = operands.integer(1)?;
     let quotient = whole_quotient(a, b)?;
-    operands.shrink(2);
-    operands.push(plain(Kind::Integer(quotient)))?;
+    push_result(operands, 2, Kind::Integer(quotient))?;
     Ok(())
 }
 
 pub(crate) fn mod_(state: &mut State) -> Result<(), Refusal>
-    ensures { TellsDone (spec.mod_ state.old) state.old result state.new }
+    ensures { DoesAlone spec.mod_ state.old result state.new }
 {
     let operands = &mut state.regs.operands;
     operands.need(2)?;
     let b = operands.integer(0)?;
     let a = operands.integer(1)?;
     let rest = remainder(a, b)?;
-    operands.shrink(2);
-    operands.push(plain(Kind::Integer(rest)))?;
+    push_result(operands, 2, Kind::Integer(rest))?;
     Ok(())
 }

@@ -1,10 +1,10 @@
 //! Operators on booleans and on the bits of integers (section 3.9.3 of the language manual).
 ghost use Rattle.std.specs.Prelude.{◌≡◌};
-ghost use Rattle.stack_arith.specs.Done.{TellsDone};
+ghost use Rattle.ps_operator.specs.Owes.{DoesAlone};
 ghost use Rattle.stack_arith.specs.Bits as spec;
 
-use ps_kinds::{ErrorName, Kind, Refusal, State};
-use ps_operator::plain;
+use ps_kinds::{ErrorName, Kind, Operands, Refusal, State};
+use ps_operator::push_result;
 
 fn conjunction(x: &Kind, y: &Kind) -> Result<Kind, ErrorName>
     ensures { result ≡ spec.conjunction x.now y.now }
@@ -93,63 +93,58 @@ fn shifted(n: i32, by: i32) -> i32
 }
 
 pub(crate) fn and(state: &mut State) -> Result<(), Refusal>
-    ensures { TellsDone (spec.and state.old) state.old result state.new }
+    ensures { DoesAlone spec.and state.old result state.new }
 {
     let operands = &mut state.regs.operands;
     operands.need(2)?;
     let y = operands.object(0)?;
     let x = operands.object(1)?;
     let kind = conjunction(&x.kind, &y.kind)?;
-    operands.shrink(2);
-    operands.push(plain(kind))?;
+    push_result(operands, 2, kind)?;
     Ok(())
 }
 
 pub(crate) fn or(state: &mut State) -> Result<(), Refusal>
-    ensures { TellsDone (spec.or state.old) state.old result state.new }
+    ensures { DoesAlone spec.or state.old result state.new }
 {
     let operands = &mut state.regs.operands;
     operands.need(2)?;
     let y = operands.object(0)?;
     let x = operands.object(1)?;
     let kind = disjunction(&x.kind, &y.kind)?;
-    operands.shrink(2);
-    operands.push(plain(kind))?;
+    push_result(operands, 2, kind)?;
     Ok(())
 }
 
 pub(crate) fn xor(state: &mut State) -> Result<(), Refusal>
-    ensures { TellsDone (spec.xor state.old) state.old result state.new }
+    ensures { DoesAlone spec.xor state.old result state.new }
 {
     let operands = &mut state.regs.operands;
     operands.need(2)?;
     let y = operands.object(0)?;
     let x = operands.object(1)?;
     let kind = exclusion(&x.kind, &y.kind)?;
-    operands.shrink(2);
-    operands.push(plain(kind))?;
+    push_result(operands, 2, kind)?;
     Ok(())
 }
 
 pub(crate) fn not_(state: &mut State) -> Result<(), Refusal>
-    ensures { TellsDone (spec.not_ state.old) state.old result state.new }
+    ensures { DoesAlone spec.not_ state.old result state.new }
 {
     let operands = &mut state.regs.operands;
     operands.need(1)?;
     let kind = opposite(&operands.object(0)?.kind)?;
-    operands.shrink(1);
-    operands.push(plain(kind))?;
+    push_result(operands, 1, kind)?;
     Ok(())
 }
 
 pub(crate) fn bitshift(state: &mut State) -> Result<(), Refusal>
-    ensures { TellsDone (spec.bitshift state.old) state.old result state.new }
+    ensures { DoesAlone spec.bitshift state.old result state.new }
 {
     let operands = &mut state.regs.operands;
     operands.need(2)?;
     let by = operands.integer(0)?;
     let n = operands.integer(1)?;
-    operands.shrink(2);
-    operands.push(plain(Kind::Integer(shifted(n, by))))?;
+    push_result(operands, 2, Kind::Integer(shifted(n, by)))?;
     Ok(())
 }

@@ -1,20 +1,17 @@
 //! Equality and order (section 3.9.3 of the language manual).
 #![tactic(auto, using(ps_operator::proofs::Then::answer_then, ps_operator::proofs::Then::reads_then, ps_operator::proofs::Standing::object_stands, ps_operator::proofs::Standing::string_stands))]
 
-ghost use Rattle.std.specs.Prelude.{◌≡◌, true, not, Ok, IfOk, OnOk};
-ghost use Rattle.std.specs.Ordering.{int_eq, is_lt, is_le, is_gt, is_ge};
-ghost use Rattle.ps_meaning.specs.Answer.{answer};
+ghost use Rattle.std.specs.Prelude.{◌≡◌, true, IfOk, OnOk};
 ghost use Rattle.ps_meaning.specs.Ready.{Ready};
-ghost use Rattle.ps_operator.specs.Tree.{Yields, reads};
 ghost use Rattle.ps_operator.specs.Standing.{is_named};
 ghost use Rattle.ps_operator.specs.Keys.{key_right_of};
 ghost use Rattle.ps_operator.specs.Registers.{ops};
-ghost use Rattle.stack_arith.specs.Done.{MeetsDone};
+ghost use Rattle.ps_operator.specs.Owes.{Does, Yields, Finds};
 ghost use Rattle.stack_arith.specs.Comparison as spec;
 
 use crate::numbers::as_real;
-use ps_kinds::{ErrorName, Interval, Kind, NoMemory, Number, Object, Refusal, State};
-use ps_operator::{Mem, bytes_of, plain};
+use ps_kinds::{ErrorName, Interval, Kind, NoMemory, Number, Object, Operands, Refusal, State};
+use ps_operator::{Mem, bytes_of, push_result};
 use std::alloc::Global;
 use std::cmp::Ordering;
 
@@ -34,16 +31,7 @@ fn items_of(kind: &Kind) -> Option<Interval>
     ensures { result ≡ spec.items_of kind.now }
 {
     match kind {
-        Kind::Array {
-            cell,
-            start,
-            len,
-            ..
-        } => Some(Interval {
-            cell: *cell,
-            start: *start,
-            len: *len,
-        }),
+        Kind::Array { interval, .. } => Some(*interval),
         _ => None,
     }
 }
@@ -69,7 +57,7 @@ fn is_text(kind: &Kind) -> bool
     ensures { result ≡ spec.is_text kind.now }
 {
     match kind {
-        Kind::Str { .. } | Kind::Name(_) => true,
+        Kind::Str(_) | Kind::Name(_) => true,
         _ => false,
     }
 }
@@ -79,7 +67,7 @@ fn text_right(object: &Object) -> Result<(), ErrorName>
     ensures { result ≡ key_right_of object.now.access object.now.kind }
 {
     match object.kind {
-        Kind::Str { .. } => object.access.readable(),
+        Kind::Str(_) => object.access.readable(),
         _ => Ok(()),
     }
 }
@@ -88,18 +76,10 @@ fn text_right(object: &Object) -> Result<(), ErrorName>
 fn text_of<M: Mem>(alloc: Global, kind: &Kind, mem: &mut M) -> Result<Vec<u8>, NoMemory>
     requires { is_named (M.log mem.old).view kind.now ≡ true }
     ensures view { OnOk result ((M.log mem.new).view ≡ (M.log mem.old).view) }
-    ensures told { IfOk result (λ v. reads (spec.text_of kind.now) (M.log mem.old) ≡ record { outcome = Ok v.items; log = M.log mem.new }) }
+    ensures told { IfOk result (λ v. Finds (spec.text_of kind.now) (M.log mem.old) v.items (M.log mem.new)) }
 {
     match kind {
-        Kind::Str { cell, start, len } => bytes_of(
-            alloc,
-            Interval {
-                cell: *cell,
-                start: *start,
-                len: *len,
-            },
-            mem,
-        ),
+        Kind::Str(string) => bytes_of(alloc, *string, mem),
         Kind::Name(name) => Ok(Vec::from_slice(alloc, name.as_slice())?),
         _ => Ok(Vec::new(alloc)),
     }
@@ -108,7 +88,7 @@ fn text_of<M: Mem>(alloc: Global, kind: &Kind, mem: &mut M) -> Result<Vec<u8>, N
 fn equal<M: Mem>(alloc: Global, x: &Object, y: &Object, mem: &mut M) -> Result<bool, Refusal>
     requires x { is_named (M.log mem.old).view x.now.kind ≡ true }
     requires y { is_named (M.log mem.old).view y.now.kind ≡ true }
-    ensures { Yields (reads (spec.equal x.now y.now) (M.log mem.old)) result (M.log mem.new) }
+    ensures { Yields (spec.equal x.now y.now) (M.log mem.old) result (M.log mem.new) }
 {
     if is_text(&x.kind) && is_text(&y.kind) {
         text_right(y)?;
@@ -120,46 +100,47 @@ fn equal<M: Mem>(alloc: Global, x: &Object, y: &Object, mem: &mut M) -> Result<b
     Ok(same(&x.kind, &y.kind))
 }
 
-pub(crate) fn eq<M: Mem>(alloc: Global, state: &mut State, mem: &mut M) -> Result<(), Refusal>
+pub(crate) fn eq<M: Mem>(state: &mut State, mem: &mut M) -> Result<(), Refusal>
     requires { Ready state.old (M.log mem.old).view }
-    ensures { MeetsDone (answer (spec.eq state.old) state.old (M.log mem.old)) result state.new (M.log mem.new) }
+    ensures { Does spec.eq state.old (M.log mem.old) result state.new (M.log mem.new) }
 {
     let operands = &mut state.regs.operands;
+    let alloc = operands.alloc();
     operands.need(2)?;
     let y = operands.object(0)?;
     let x = operands.object(1)?;
     let same = equal(alloc, x, y, mem)?;
-    operands.shrink(2);
-    operands.push(plain(Kind::Boolean(same)))?;
+    push_result(operands, 2, Kind::Boolean(same))?;
     Ok(())
 }
 
-pub(crate) fn ne<M: Mem>(alloc: Global, state: &mut State, mem: &mut M) -> Result<(), Refusal>
+pub(crate) fn ne<M: Mem>(state: &mut State, mem: &mut M) -> Result<(), Refusal>
     requires { Ready state.old (M.log mem.old).view }
-    ensures { MeetsDone (answer (spec.ne state.old) state.old (M.log mem.old)) result state.new (M.log mem.new) }
+    ensures { Does spec.ne state.old (M.log mem.old) result state.new (M.log mem.new) }
 {
     let operands = &mut state.regs.operands;
+    let alloc = operands.alloc();
     operands.need(2)?;
     let y = operands.object(0)?;
     let x = operands.object(1)?;
     let same = equal(alloc, x, y, mem)?;
-    operands.shrink(2);
-    operands.push(plain(Kind::Boolean(!same)))?;
+    push_result(operands, 2, Kind::Boolean(!same))?;
     Ok(())
 }
 
 fn is_string(kind: &Kind) -> bool
     ensures { result ≡ spec.is_string kind.now }
 {
-    matches!(kind, Kind::Str { .. })
+    matches!(kind, Kind::Str(_))
 }
 
 /// The order of two strings by their bytes: typecheck, invalidaccess.
-fn string_order<M: Mem>(alloc: Global, state: &State, mem: &mut M) -> Result<Ordering, Refusal>
+fn string_order<M: Mem>(state: &State, mem: &mut M) -> Result<Ordering, Refusal>
     requires { Ready state.now (M.log mem.old).view }
-    ensures { Yields (reads (spec.string_order (ops state.now)) (M.log mem.old)) result (M.log mem.new) }
+    ensures { Yields (spec.string_order (ops state.now)) (M.log mem.old) result (M.log mem.new) }
 {
     let operands = &state.regs.operands;
+    let alloc = operands.alloc();
     let b = operands.string(0)?;
     let a = operands.string(1)?;
     operands.readable(0)?;
@@ -170,71 +151,55 @@ fn string_order<M: Mem>(alloc: Global, state: &State, mem: &mut M) -> Result<Ord
 }
 
 /// The order of two strings where the top operand is one, else of two numbers: typecheck, invalidaccess.
-fn order<M: Mem>(alloc: Global, state: &State, mem: &mut M) -> Result<Ordering, Refusal>
+fn order<M: Mem>(state: &State, mem: &mut M) -> Result<Ordering, Refusal>
     requires { Ready state.now (M.log mem.old).view }
-    ensures { Yields (reads (spec.order (ops state.now)) (M.log mem.old)) result (M.log mem.new) }
+    ensures { Yields (spec.order (ops state.now)) (M.log mem.old) result (M.log mem.new) }
 {
     let operands = &state.regs.operands;
     if is_string(&operands.object(0)?.kind) {
-        return string_order(alloc, state, mem);
+        return string_order(state, mem);
     }
     let b = as_real(operands.number(0)?);
     let a = as_real(operands.number(1)?);
     Ok(a.count.cmp(&b.count))
 }
 
-pub(crate) fn gt<M: Mem>(alloc: Global, state: &mut State, mem: &mut M) -> Result<(), Refusal>
+pub(crate) fn gt<M: Mem>(state: &mut State, mem: &mut M) -> Result<(), Refusal>
     requires { Ready state.old (M.log mem.old).view }
-    ensures { MeetsDone (answer (spec.gt state.old) state.old (M.log mem.old)) result state.new (M.log mem.new) }
+    ensures { Does spec.gt state.old (M.log mem.old) result state.new (M.log mem.new) }
 {
     state.regs.operands.need(2)?;
-    let order = order(alloc, state, mem)?;
-    state.regs.operands.shrink(2);
-    state
-        .regs
-        .operands
-        .push(plain(Kind::Boolean(order.is_gt())))?;
+    let order = order(state, mem)?;
+    push_result(&mut state.regs.operands, 2, Kind::Boolean(order.is_gt()))?;
     Ok(())
 }
 
-pub(crate) fn ge<M: Mem>(alloc: Global, state: &mut State, mem: &mut M) -> Result<(), Refusal>
+pub(crate) fn ge<M: Mem>(state: &mut State, mem: &mut M) -> Result<(), Refusal>
     requires { Ready state.old (M.log mem.old).view }
-    ensures { MeetsDone (answer (spec.ge state.old) state.old (M.log mem.old)) result state.new (M.log mem.new) }
+    ensures { Does spec.ge state.old (M.log mem.old) result state.new (M.log mem.new) }
 {
     state.regs.operands.need(2)?;
-    let order = order(alloc, state, mem)?;
-    state.regs.operands.shrink(2);
-    state
-        .regs
-        .operands
-        .push(plain(Kind::Boolean(order.is_ge())))?;
+    let order = order(state, mem)?;
+    push_result(&mut state.regs.operands, 2, Kind::Boolean(order.is_ge()))?;
     Ok(())
 }
 
-pub(crate) fn lt<M: Mem>(alloc: Global, state: &mut State, mem: &mut M) -> Result<(), Refusal>
+pub(crate) fn lt<M: Mem>(state: &mut State, mem: &mut M) -> Result<(), Refusal>
     requires { Ready state.old (M.log mem.old).view }
-    ensures { MeetsDone (answer (spec.lt state.old) state.old (M.log mem.old)) result state.new (M.log mem.new) }
+    ensures { Does spec.lt state.old (M.log mem.old) result state.new (M.log mem.new) }
 {
     state.regs.operands.need(2)?;
-    let order = order(alloc, state, mem)?;
-    state.regs.operands.shrink(2);
-    state
-        .regs
-        .operands
-        .push(plain(Kind::Boolean(order.is_lt())))?;
+    let order = order(state, mem)?;
+    push_result(&mut state.regs.operands, 2, Kind::Boolean(order.is_lt()))?;
     Ok(())
 }
 
-pub(crate) fn le<M: Mem>(alloc: Global, state: &mut State, mem: &mut M) -> Result<(), Refusal>
+pub(crate) fn le<M: Mem>(state: &mut State, mem: &mut M) -> Result<(), Refusal>
     requires { Ready state.old (M.log mem.old).view }
-    ensures { MeetsDone (answer (spec.le state.old) state.old (M.log mem.old)) result state.new (M.log mem.new) }
+    ensures { Does spec.le state.old (M.log mem.old) result state.new (M.log mem.new) }
 {
     state.regs.operands.need(2)?;
-    let order = order(alloc, state, mem)?;
-    state.regs.operands.shrink(2);
-    state
-        .regs
-        .operands
-        .push(plain(Kind::Boolean(order.is_le())))?;
+    let order = order(state, mem)?;
+    push_result(&mut state.regs.operands, 2, Kind::Boolean(order.is_le()))?;
     Ok(())
 }

@@ -2,13 +2,12 @@
 #![tactic(auto, using(ps_operator::proofs::Standing::random_stands, ps_operator::proofs::Standing::page_stands))]
 
 ghost use Rattle.std.specs.Prelude.{◌≡◌, ◌<◌};
-ghost use Rattle.ps_meaning.specs.Answer.{answer};
 ghost use Rattle.ps_meaning.specs.Ready.{Ready};
-ghost use Rattle.stack_arith.specs.Done.{MeetsDone};
+ghost use Rattle.ps_operator.specs.Owes.{Does};
 ghost use Rattle.stack_arith.specs.Random as spec;
 
-use ps_kinds::{Kind, Refusal, State};
-use ps_operator::{Mem, look_rand, plain, store_rand};
+use ps_kinds::{Kind, Operands, Refusal, State};
+use ps_operator::{Mem, literal, look_rand, store_rand};
 
 /// The state after a state.
 fn next_rand(state: u32) -> u32
@@ -24,12 +23,15 @@ fn next_rand(state: u32) -> u32
 
 pub(crate) fn rand<M: Mem>(state: &mut State, mem: &mut M) -> Result<(), Refusal>
     requires { Ready state.old (M.log mem.old).view }
-    ensures { MeetsDone (answer (spec.rand state.old) state.old (M.log mem.old)) result state.new (M.log mem.new) }
+    ensures { Does spec.rand state.old (M.log mem.old) result state.new (M.log mem.new) }
 {
     state.regs.operands.room(1)?;
     let next = next_rand(look_rand(mem)?);
     store_rand(mem, next)?;
-    state.regs.operands.push(plain(Kind::Integer(next as i32)))?;
+    state
+        .regs
+        .operands
+        .push(literal(Kind::Integer(next as i32)))?;
     Ok(())
 }
 
@@ -45,7 +47,7 @@ fn seed_of(n: i32) -> u32
 
 pub(crate) fn srand<M: Mem>(state: &mut State, mem: &mut M) -> Result<(), Refusal>
     requires { Ready state.old (M.log mem.old).view }
-    ensures { MeetsDone (answer (spec.srand state.old) state.old (M.log mem.old)) result state.new (M.log mem.new) }
+    ensures { Does spec.srand state.old (M.log mem.old) result state.new (M.log mem.new) }
 {
     let operands = &mut state.regs.operands;
     operands.need(1)?;
@@ -57,10 +59,13 @@ pub(crate) fn srand<M: Mem>(state: &mut State, mem: &mut M) -> Result<(), Refusa
 
 pub(crate) fn rrand<M: Mem>(state: &mut State, mem: &mut M) -> Result<(), Refusal>
     requires { Ready state.old (M.log mem.old).view }
-    ensures { MeetsDone (answer (spec.rrand state.old) state.old (M.log mem.old)) result state.new (M.log mem.new) }
+    ensures { Does spec.rrand state.old (M.log mem.old) result state.new (M.log mem.new) }
 {
     state.regs.operands.room(1)?;
     let told = look_rand(mem)?;
-    state.regs.operands.push(plain(Kind::Integer(told as i32)))?;
+    state
+        .regs
+        .operands
+        .push(literal(Kind::Integer(told as i32)))?;
     Ok(())
 }

@@ -1,13 +1,13 @@
 //! Absolute values, negation and rounding (section 3.9.2 of the language manual).
 ghost use Rattle.std.specs.Prelude.{◌≡◌, pos, ◌*ℤ◌, ◌≤ℤ◌, ◌^◌, negsuc};
-ghost use Rattle.stack_arith.specs.Done.{TellsDone};
+ghost use Rattle.ps_operator.specs.Owes.{DoesAlone};
 ghost use Rattle.stack_arith.specs.Numbers.{defined};
 ghost use Rattle.ps_fixed.specs.Rounding.{real_of};
 ghost use Rattle.stack_arith.specs.Rounding as spec;
 
-use crate::numbers::{defined, replace};
+use crate::numbers::{defined, push_number};
 use ps_fixed::real_of;
-use ps_kinds::{ErrorName, Number, Real, Refusal, State};
+use ps_kinds::{ErrorName, Number, Operands, Real, Refusal, State};
 
 const HALF: i128 = 0x80_0000;
 
@@ -113,61 +113,61 @@ fn without_fraction(a: Number) -> Result<Number, ErrorName>
 }
 
 pub(crate) fn abs(state: &mut State) -> Result<(), Refusal>
-    ensures { TellsDone (spec.abs state.old) state.old result state.new }
+    ensures { DoesAlone spec.abs state.old result state.new }
 {
     let operands = &mut state.regs.operands;
     operands.need(1)?;
     let a = operands.number(0)?;
-    replace(operands, 1, magnitude(a)?)?;
+    push_number(operands, 1, magnitude(a)?)?;
     Ok(())
 }
 
 pub(crate) fn neg(state: &mut State) -> Result<(), Refusal>
-    ensures { TellsDone (spec.neg state.old) state.old result state.new }
+    ensures { DoesAlone spec.neg state.old result state.new }
 {
     let operands = &mut state.regs.operands;
     operands.need(1)?;
     let a = operands.number(0)?;
-    replace(operands, 1, negative(a)?)?;
+    push_number(operands, 1, negative(a)?)?;
     Ok(())
 }
 
 pub(crate) fn ceiling(state: &mut State) -> Result<(), Refusal>
-    ensures { TellsDone (spec.ceiling state.old) state.old result state.new }
+    ensures { DoesAlone spec.ceiling state.old result state.new }
 {
     let operands = &mut state.regs.operands;
     operands.need(1)?;
     let a = operands.number(0)?;
-    replace(operands, 1, rounded_up(a)?)?;
+    push_number(operands, 1, rounded_up(a)?)?;
     Ok(())
 }
 
 pub(crate) fn floor(state: &mut State) -> Result<(), Refusal>
-    ensures { TellsDone (spec.floor state.old) state.old result state.new }
+    ensures { DoesAlone spec.floor state.old result state.new }
 {
     let operands = &mut state.regs.operands;
     operands.need(1)?;
     let a = operands.number(0)?;
-    replace(operands, 1, rounded_down(a)?)?;
+    push_number(operands, 1, rounded_down(a)?)?;
     Ok(())
 }
 
 pub(crate) fn round(state: &mut State) -> Result<(), Refusal>
-    ensures { TellsDone (spec.round state.old) state.old result state.new }
+    ensures { DoesAlone spec.round state.old result state.new }
 {
     let operands = &mut state.regs.operands;
     operands.need(1)?;
     let a = operands.number(0)?;
-    replace(operands, 1, rounded_to_nearest(a)?)?;
+    push_number(operands, 1, rounded_to_nearest(a)?)?;
     Ok(())
 }
 
 pub(crate) fn truncate(state: &mut State) -> Result<(), Refusal>
-    ensures { TellsDone (spec.truncate state.old) state.old result state.new }
+    ensures { DoesAlone spec.truncate state.old result state.new }
 {
     let operands = &mut state.regs.operands;
     operands.need(1)?;
     let a = operands.number(0)?;
-    replace(operands, 1, without_fraction(a)?)?;
+    push_number(operands, 1, without_fraction(a)?)?;
     Ok(())
 }

@@ -1,68 +1,68 @@
 //! The operators on the operand stack (section 3.9.1 of the language manual).
-ghost use Rattle.std.specs.Prelude.{◌≡◌, ◌+◌, ◌^◌, ◌<◌, ◌≤◌, length, IfOk};
-ghost use Rattle.stack_arith.specs.Done.{TellsDone};
+ghost use Rattle.std.specs.Prelude.{◌≡◌, ◌≤◌};
+ghost use Rattle.ps_operator.specs.Owes.{DoesAlone};
 ghost use Rattle.stack_arith.specs.Stack as spec;
 
-use ps_kinds::{ErrorName, Kind, Objects, Refusal, State};
-use ps_operator::{natural_of, plain};
+use ps_kinds::{Kind, Operands, Refusal, State};
+use ps_operator::{above_mark, literal, natural_of, push_copy};
 
 pub(crate) fn pop(state: &mut State) -> Result<(), Refusal>
-    ensures { TellsDone (spec.pop state.old) state.old result state.new }
+    ensures { DoesAlone spec.pop state.old result state.new }
 {
-    state.regs.operands.need(1)?;
-    state.regs.operands.shrink(1);
+    let operands = &mut state.regs.operands;
+    operands.need(1)?;
+    operands.shrink(1);
     Ok(())
 }
 
 pub(crate) fn exch(state: &mut State) -> Result<(), Refusal>
-    ensures { TellsDone (spec.exch state.old) state.old result state.new }
+    ensures { DoesAlone spec.exch state.old result state.new }
 {
-    state.regs.operands.need(2)?;
-    state.regs.operands.exchange();
+    let operands = &mut state.regs.operands;
+    operands.need(2)?;
+    operands.exchange();
     Ok(())
 }
 
 pub(crate) fn dup(state: &mut State) -> Result<(), Refusal>
-    ensures { TellsDone (spec.dup state.old) state.old result state.new }
+    ensures { DoesAlone spec.dup state.old result state.new }
 {
     let operands = &mut state.regs.operands;
     operands.need(1)?;
-    let object = operands.object(0)?;
+    operands.object(0)?;
     operands.room(1)?;
-    let copy = object.copy()?;
-    operands.push(copy)?;
+    push_copy(operands, 0)?;
     Ok(())
 }
 
 pub(crate) fn count(state: &mut State) -> Result<(), Refusal>
-    ensures { TellsDone (spec.count state.old) state.old result state.new }
+    ensures { DoesAlone spec.count state.old result state.new }
 {
-    state.regs.operands.room(1)?;
-    let count = state.regs.operands.len();
-    state
-        .regs
-        .operands
-        .push(plain(Kind::Integer(count as i32)))?;
+    let operands = &mut state.regs.operands;
+    operands.room(1)?;
+    let count = operands.len() as i32;
+    operands.push(literal(Kind::Integer(count)))?;
     Ok(())
 }
 
 pub(crate) fn clear(state: &mut State) -> Result<(), Refusal>
-    ensures { TellsDone (spec.clear state.old) state.old result state.new }
+    ensures { DoesAlone spec.clear state.old result state.new }
 {
     state.regs.operands.clear();
     Ok(())
 }
 
+#[tactic(auto, using(ps_operator::proofs::Newest::without_newest))]
 pub(crate) fn index(state: &mut State) -> Result<(), Refusal>
-    ensures { TellsDone (spec.index state.old) state.old result state.new }
+    ensures { DoesAlone spec.index state.old result state.new }
 {
     let operands = &mut state.regs.operands;
     operands.need(1)?;
     let depth = natural_of(operands.integer(0)?)? as usize;
     operands.need(depth + 2)?;
-    let copy = operands.object(depth + 1)?.copy()?;
+    operands.object(depth + 1)?;
     operands.shrink(1);
-    operands.push(copy)?;
+    push_copy(operands, depth)?;
     Ok(())
 }
 
@@ -81,7 +81,7 @@ fn turn(j: i32, n: u32) -> u32
 }
 
 pub(crate) fn roll(state: &mut State) -> Result<(), Refusal>
-    ensures { TellsDone (spec.roll state.old) state.old result state.new }
+    ensures { DoesAlone spec.roll state.old result state.new }
 {
     let operands = &mut state.regs.operands;
     operands.need(2)?;
@@ -95,50 +95,29 @@ pub(crate) fn roll(state: &mut State) -> Result<(), Refusal>
 
 /// What `mark`, `[` and `<<` do.
 pub(crate) fn mark(state: &mut State) -> Result<(), Refusal>
-    ensures { TellsDone (spec.mark state.old) state.old result state.new }
+    ensures { DoesAlone spec.mark state.old result state.new }
 {
-    state.regs.operands.room(1)?;
-    state.regs.operands.push(plain(Kind::Mark))?;
+    let operands = &mut state.regs.operands;
+    operands.room(1)?;
+    operands.push(literal(Kind::Mark))?;
     Ok(())
 }
 
-fn is_mark(kind: &Kind) -> bool
-    ensures { result ≡ spec.is_mark kind.now }
-{
-    matches!(kind, Kind::Mark)
-}
-
-/// How many operands lie above the newest mark: unmatchedmark.
-#[tactic(auto, using(crate::proofs::Marks::mark_hit, crate::proofs::Marks::mark_miss))]
-fn above_mark(operands: &Objects) -> Result<usize, ErrorName>
-    ensures value { result ≡ spec.above_mark operands.now }
-    ensures within { IfOk result (λ n. n < length operands.now) }
-    ensures small { IfOk result (λ n. n + 1 < 2 ^ 64) }
-{
-    for depth in 0..operands.len() {
-        if is_mark(&operands.at(depth).kind) {
-            return Ok(depth);
-        }
-    }
-    Err(ErrorName::UnmatchedMark)
-}
-
 pub(crate) fn cleartomark(state: &mut State) -> Result<(), Refusal>
-    ensures { TellsDone (spec.cleartomark state.old) state.old result state.new }
+    ensures { DoesAlone spec.cleartomark state.old result state.new }
 {
-    let above = above_mark(&state.regs.operands)?;
-    state.regs.operands.shrink(above + 1);
+    let operands = &mut state.regs.operands;
+    let above = above_mark(operands)?;
+    operands.shrink(above + 1);
     Ok(())
 }
 
 pub(crate) fn counttomark(state: &mut State) -> Result<(), Refusal>
-    ensures { TellsDone (spec.counttomark state.old) state.old result state.new }
+    ensures { DoesAlone spec.counttomark state.old result state.new }
 {
-    let above = above_mark(&state.regs.operands)?;
-    state.regs.operands.room(1)?;
-    state
-        .regs
-        .operands
-        .push(plain(Kind::Integer(above as i32)))?;
+    let operands = &mut state.regs.operands;
+    let above = above_mark(operands)?;
+    operands.room(1)?;
+    operands.push(literal(Kind::Integer(above as i32)))?;
     Ok(())
 }
