@@ -4,9 +4,7 @@ ghost use Rattle.ps_operator.specs.Registers.{current};
 ghost use Rattle.ps_meaning.specs.Budgets.{unit_budget, message_budget, show_budget};
 ghost use Rattle.ps_operator.specs.Budgets as spec;
 
-use ps_kinds::{
-    Cell, DictStack, ErrorName, FRAME_LIMIT, Frames, GStack, Kind, SectionKind, Space,
-};
+use ps_kinds::{Cell, DictStack, ErrorName, FRAME_LIMIT, Frames, GStack, Kind, SectionKind, Space};
 
 /// The dictionary in which is defined.
 pub fn current(dicts: &DictStack) -> Cell

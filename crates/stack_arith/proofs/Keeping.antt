@@ -19,7 +19,6 @@ use Rattle.copy_lists.specs.Turned.{rolled}
 use Rattle.ps_kinds.specs.declared.state.State.{State}
 use Rattle.ps_objects.specs.Object.{cell_named}
 use Rattle.ps_meaning.specs.Fits.{Shapes, FitsCell, FitsObject, takes}
-use Rattle.ps_meaning.specs.Ready.{Fits}
 use Rattle.ps_meaning.specs.Sound.{World}
 use Rattle.ps_operator.specs.Tree.{Ask, read, look_then, found}
 use Rattle.ps_operator.specs.Keys.{bytes_of, key_right_of}
@@ -29,10 +28,11 @@ use Rattle.ps_operator.specs.Registers.{ops, literal}
 use Rattle.ps_operator.proofs.Fitting.{Fit, drop_fits, rolled_fits, object_fits, string_fits, string_kind}
 use Rattle.ps_operator.proofs.Growing.{rand_stored_keeps}
 use Rattle.ps_operator.proofs.Lawful.{AreBytes, read_keeps, rand_keeps, leaves_keeps}
-use Rattle.stack_arith.proofs.Finding.{Finds, Any, found_finds, read_finds, then_finds, finds_any, bytes_find, finding_keeps}
+use Rattle.ps_operator.proofs.Seeking.{Seeks, Any, found_seeks, read_seeks, then_seeks, seeks_any, bytes_seek, seeking_keeps}
+use Rattle.ps_operator.proofs.Running.{◌▹◌, all_lawful}
 use Rattle.stack_arith.specs.Stack.{pop, exch, dup, count, clear, index, turn, roll, mark, cleartomark, counttomark}
 use Rattle.ps_operator.specs.Marks.{above_mark}
-use Rattle.ps_operator.specs.Operators.{Operators, run_in, AreLawful}
+use Rattle.ps_operator.specs.Operators.{AreLawful}
 use Rattle.stack_arith.specs.Numbers.{kind_of, of_one, of_two, of_integers}
 use Rattle.stack_arith.specs.Arithmetic.{sum, difference, product, quotient, whole_quotient, remainder}
 use Rattle.stack_arith.specs.Rounding.{magnitude, negative, rounded_up, rounded_down, rounded_to_nearest, without_fraction}
@@ -178,25 +178,25 @@ rrand_keeps text s W f =
 
 -- ---- comparison
 
-text_finds : (W : World) (k : Kind) → FitsCell W.shapes (cell_named k) (takes k) → Finds W Any (text_of k)
-text_finds W (kind.Str a) h = finds_any (bytes_of a) (bytes_find (string_kind W.shapes (kind.Str a) a h refl))
-text_finds W (kind.Name n) h = found_finds Any n tt
-text_finds W _ h = found_finds Any [] tt
+text_seeks : (W : World) (k : Kind) → FitsCell W.shapes (cell_named k) (takes k) → Seeks W Any (text_of k)
+text_seeks W (kind.Str a) h = seeks_any (bytes_of a) (bytes_seek (string_kind W.shapes (kind.Str a) a h refl))
+text_seeks W (kind.Name n) h = found_seeks Any n tt
+text_seeks W _ h = found_seeks Any [] tt
 
-same_text_finds : (W : World) (x y : Object) → FitsObject W.shapes x → FitsObject W.shapes y → Finds W Any (same_text x y)
-same_text_finds W x y h g =
-    read_finds (key_right_of y.access y.kind) (λ _ _.
-    read_finds (key_right_of x.access x.kind) (λ _ _.
-    then_finds Any (text_of y.kind) (text_finds W y.kind g) (λ v _.
-    then_finds Any (text_of x.kind) (text_finds W x.kind h) (λ u _.
-    found_finds Any (pointwise nat_eq u v) tt))))
+same_text_seeks : (W : World) (x y : Object) → FitsObject W.shapes x → FitsObject W.shapes y → Seeks W Any (same_text x y)
+same_text_seeks W x y h g =
+    read_seeks (key_right_of y.access y.kind) (λ _ _.
+    read_seeks (key_right_of x.access x.kind) (λ _ _.
+    then_seeks Any (text_of y.kind) (text_seeks W y.kind g) (λ v _.
+    then_seeks Any (text_of x.kind) (text_seeks W x.kind h) (λ u _.
+    found_seeks Any (pointwise nat_eq u v) tt))))
 
-equal_finds : (W : World) (x y : Object) → FitsObject W.shapes x → FitsObject W.shapes y → Finds W Any (equal x y)
-equal_finds W x y h g = go (is_text x.kind && is_text y.kind)
+equal_seeks : (W : World) (x y : Object) → FitsObject W.shapes x → FitsObject W.shapes y → Seeks W Any (equal x y)
+equal_seeks W x y h g = go (is_text x.kind && is_text y.kind)
   where
-    go : (t : Bool) → Finds W Any (cond t (same_text x y) (found (same x.kind y.kind)))
-    go true = same_text_finds W x y h g
-    go false = found_finds Any (same x.kind y.kind) tt
+    go : (t : Bool) → Seeks W Any (cond t (same_text x y) (found (same x.kind y.kind)))
+    go true = same_text_seeks W x y h g
+    go false = found_seeks Any (same x.kind y.kind) tt
 
 equality_keeps : (g : Bool → Bool) → IsLawful (equality g)
 equality_keeps g text s W f =
@@ -204,37 +204,37 @@ equality_keeps g text s W f =
     read_keeps (needed 2 (ops s)) (λ _ _.
     read_keeps (object_at 0 (ops s)) (λ y p.
     read_keeps (object_at 1 (ops s)) (λ x q.
-    finding_keeps Any (equal x y) (equal_finds W x y (object_fits W.shapes (ops s) 1 x o q) (object_fits W.shapes (ops s) 0 y o p)) (λ b _.
+    seeking_keeps Any (equal x y) (equal_seeks W x y (object_fits W.shapes (ops s) 1 x o q) (object_fits W.shapes (ops s) 0 y o p)) (λ b _.
     leaves_keeps f (literal (kind.Boolean (g b)) ∷ drop 2 (ops s)) (tt, drop_fits W.shapes 2 (ops s) o)))))
 
-string_order_finds : (W : World) (xs : List Object) → Fit W.shapes xs → Finds W Any (string_order xs)
-string_order_finds W xs o =
-    read_finds (string_at 0 xs) (λ b p.
-    read_finds (string_at 1 xs) (λ a q.
-    read_finds (readable_at 0 xs) (λ _ _.
-    read_finds (readable_at 1 xs) (λ _ _.
-    then_finds (AreBytes W b.len) (bytes_of b) (bytes_find (string_fits W.shapes xs 0 b o p)) (λ v _.
-    then_finds (AreBytes W a.len) (bytes_of a) (bytes_find (string_fits W.shapes xs 1 a o q)) (λ u _.
-    found_finds Any (slice_cmp nat_cmp u v) tt))))))
+string_order_seeks : (W : World) (xs : List Object) → Fit W.shapes xs → Seeks W Any (string_order xs)
+string_order_seeks W xs o =
+    read_seeks (string_at 0 xs) (λ b p.
+    read_seeks (string_at 1 xs) (λ a q.
+    read_seeks (readable_at 0 xs) (λ _ _.
+    read_seeks (readable_at 1 xs) (λ _ _.
+    then_seeks (AreBytes W b.len) (bytes_of b) (bytes_seek (string_fits W.shapes xs 0 b o p)) (λ v _.
+    then_seeks (AreBytes W a.len) (bytes_of a) (bytes_seek (string_fits W.shapes xs 1 a o q)) (λ u _.
+    found_seeks Any (slice_cmp nat_cmp u v) tt))))))
 
-number_order_finds : (W : World) (xs : List Object) → Finds W Any (number_order xs)
-number_order_finds W xs =
-    read_finds (number_at 0 xs) (λ b _.
-    read_finds (number_at 1 xs) (λ a _.
-    found_finds Any (values_order a b) tt))
+number_order_seeks : (W : World) (xs : List Object) → Seeks W Any (number_order xs)
+number_order_seeks W xs =
+    read_seeks (number_at 0 xs) (λ b _.
+    read_seeks (number_at 1 xs) (λ a _.
+    found_seeks Any (values_order a b) tt))
 
-order_finds : (W : World) (xs : List Object) → Fit W.shapes xs → Finds W Any (order xs)
-order_finds W xs o = read_finds (object_at 0 xs) (λ y _. go (is_string y.kind))
+order_seeks : (W : World) (xs : List Object) → Fit W.shapes xs → Seeks W Any (order xs)
+order_seeks W xs o = read_seeks (object_at 0 xs) (λ y _. go (is_string y.kind))
   where
-    go : (t : Bool) → Finds W Any (cond t (string_order xs) (number_order xs))
-    go true = string_order_finds W xs o
-    go false = number_order_finds W xs
+    go : (t : Bool) → Seeks W Any (cond t (string_order xs) (number_order xs))
+    go true = string_order_seeks W xs o
+    go false = number_order_seeks W xs
 
 comparison_keeps : (test : Ordering → Bool) → IsLawful (comparison test)
 comparison_keeps test text s W f =
     let o : Fit W.shapes (ops s) = f.state.registers.operands in
     read_keeps (needed 2 (ops s)) (λ _ _.
-    finding_keeps Any (order (ops s)) (order_finds W (ops s) o) (λ r _.
+    seeking_keeps Any (order (ops s)) (order_seeks W (ops s) o) (λ r _.
     leaves_keeps f (literal (kind.Boolean (test r)) ∷ drop 2 (ops s)) (tt, drop_fits W.shapes 2 (ops s) o)))
 
 -- ---- booleans and bits
@@ -266,10 +266,6 @@ not_keeps text s W f =
 
 -- ---- all of them
 
-infixr 5 ◌▹◌
-◌▹◌ : {P Q : Type 0} → P → Q → P × Q
-p ▹ q = (p, q)
-
 all_keep : AreLawful operators
 all_keep =
     pop_keeps ▹ exch_keeps ▹ dup_keeps ▹ count_keeps ▹ clear_keeps ▹ index_keeps ▹ roll_keeps
@@ -287,13 +283,5 @@ all_keep =
     ▹ kinds_keep exclusion (λ K. joined_fits K (λ a b. not (beq a b)) (int_bit_xor w32))
     ▹ not_keeps ▹ integers_keep (λ n by. Ok (shifted n by)) ▹ tt
 
-among : (ts : Operators) (n : ℕ) → AreLawful ts → IsLawful (run_in ts n)
-among [] n h = λ text s W f. record { lawful = tt }
-among (t ∷ ts) n h = λ text s W f. go (nat_eq n t.0) text s W f (h.0 text s W f) (among ts n h.1 text s W f)
-  where
-    go : (b : Bool) (text : List ℕ) (s : State) (W : World) → Fits text W s → Keeps text 4 s.frames (t.1 s) s W → Keeps text 4 s.frames (run_in ts n s) s W → Keeps text 4 s.frames (cond b (t.1 s) (run_in ts n s)) s W
-    go true text s W f x y = x
-    go false text s W f x y = y
-
 pub run_keeps : (n : ℕ) → IsLawful (run n)
-run_keeps n = among operators n all_keep
+run_keeps = all_lawful operators all_keep
