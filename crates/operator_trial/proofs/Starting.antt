@@ -18,6 +18,8 @@ use Rattle.ps_meaning.specs.Registers.{world_of, SoundState}
 use Rattle.ps_meaning.specs.Start.{start_locals, start_globals, start_memory, start_registers}
 use Rattle.ps_meaning.proofs.Start.{start_law}
 use Rattle.ps_execution.specs.Section.{fresh_state}
+use Rattle.operator_trial.specs.Start.{all_stand}
+use Rattle.operator_trial.proofs.Standing.{all_fit}
 
 none_found : {X : Type 0} (es : List (Cell × X)) → AllByRecursion (λ e. e.0.section ≡ 0) es → (c : Cell) → 0 < c.section → find cell_cmp c es ≡ None
 none_found [] all c h = refl
@@ -59,8 +61,8 @@ module _ (text : List ℕ) (settings : Settings) (moment n : ℕ) (kind : Sectio
   abbrev pub begun : State
   begun = fresh_state settings moment n kind (record (start_registers matrix width height) { operands = xs })
 
-  pub begun_ready : 0 < n → AllByRecursion (FitsObject (shape_at (start_memory width height))) xs → ReadyIn text begun (start_memory width height)
-  begun_ready p h =
+  begun_fits : 0 < n → AllByRecursion (FitsObject (shape_at (start_memory width height))) xs → ReadyIn text begun (start_memory width height)
+  begun_fits p h =
       let l : SoundState n (start_registers matrix width height) (start_memory width height) = start_law n matrix width height in
       record {
         ready = record {
@@ -76,3 +78,6 @@ module _ (text : List ℕ) (settings : Settings) (moment n : ℕ) (kind : Sectio
         };
         within = omega arith;
       }
+
+  pub begun_ready : 0 < n → all_stand xs ≡ true → ReadyIn text begun (start_memory width height)
+  begun_ready p h = begun_fits p (all_fit (shape_at (start_memory width height)) (start_law n matrix width height).memory.start xs h)
