@@ -23,8 +23,8 @@ use Rattle.ps_memory.specs.Memory.{Memory, rand, is_kind, shape_at}
 use Rattle.ps_meaning.specs.Fits.{takes, lies_within, FitsCell, FitsObject, IsDict}
 use Rattle.ps_meaning.specs.Sound.{StringFits}
 use Rattle.ps_meaning.specs.Registers.{user_dict}
-use Rattle.vm_mem.specs.Conditions.{is_here}
-use Rattle.ps_operator.specs.Standing.{page_is_here, is_dict_shape, has_items, has_bytes, is_dict, is_array, is_string, is_named, is_form, are_dicts, rand_stands}
+use Rattle.vm_mem.specs.Conditions.{is_here, page_is_here}
+use Rattle.ps_operator.specs.Standing.{is_dict_shape, has_items, has_bytes, is_dict, is_array, is_string, is_named, is_form, are_dicts, rand_stands}
 use Rattle.ps_meaning.specs.Ready.{Ready}
 use Rattle.ps_operator.specs.Registers.{current}
 
