@@ -3,7 +3,7 @@
 
 ghost use Rattle.ps_meaning.specs.Answer.{AnswerLaw, LayingLaw, SecondLookLaw};
 ghost use Rattle.ps_meaning.specs.Clauses.{ClausesLaw};
-ghost use Rattle.ps_meaning.specs.Kin.{KinLaw};
+ghost use Rattle.ps_meaning.specs.Kin.{KinLaw, UnnamedLaw};
 ghost use Rattle.ps_meaning.specs.Sound.{SoundnessLaw};
 ghost use Rattle.ps_meaning.specs.Start.{StartLaw};
 
@@ -15,6 +15,11 @@ pub fn soundness_law<A>()
 /// What stands both before some sections and after them has one shape.
 pub fn kin_law()
     ensures { KinLaw }
+{}
+
+/// What has no name of a section or of a later one has none of the sections to come, and after them none of a later section.
+pub fn unnamed_law()
+    ensures { UnnamedLaw }
 {}
 
 /// A job starts in a sound state.
