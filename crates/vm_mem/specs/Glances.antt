@@ -1,5 +1,5 @@
 -- What a glance tells of a value.
-use Rattle.std.specs.Prelude.{◌≡◌, Bool, true, false, Option, Some, None}
+use Rattle.std.specs.Prelude.{◌≡◌, Bool, true, false, Option, Some, None, option_map}
 use Rattle.ps_objects.specs.declared.access.Access.{Access}
 use Rattle.ps_objects.specs.declared.access.Access.TheVariants.{Unlimited}
 use Rattle.ps_objects.specs.declared.object.Object.{Object}
@@ -13,7 +13,7 @@ use Rattle.vm_mem.specs.declared.glance.Glance.TheVariants.{Absent, Integer, Rea
 -- an executable object: an operator with unlimited access, or an array
 abbrev pub glance_of_executable : Kind → Access → Glance
 glance_of_executable (kind.Operator op) Unlimited = Operator op
-glance_of_executable (kind.Array cell start len packed) a = Procedure (record { cell = cell; start = start; len = len }) packed a
+glance_of_executable (kind.Array part packed) a = Procedure part packed a
 glance_of_executable _ _ = Other
 
 -- a literal object with unlimited access: a number or a truth value
@@ -37,15 +37,25 @@ glance_at value.Absent = Absent
 glance_at (value.Object x) = glance_of x
 glance_at _ = Other
 
+-- a glance tells that nothing stands there
+abbrev pub is_absent : Glance → Bool
+is_absent Absent = true
+is_absent _ = false
+
+-- the object that a glance tells whole
+abbrev pub object_told : Glance → Option Object
+object_told (Integer n) = Some (record { kind = kind.Integer n; exec = false; access = Unlimited })
+object_told (Real r) = Some (record { kind = kind.Real r; exec = false; access = Unlimited })
+object_told (Boolean b) = Some (record { kind = kind.Boolean b; exec = false; access = Unlimited })
+object_told (Operator op) = Some (record { kind = kind.Operator op; exec = true; access = Unlimited })
+object_told (Procedure a packed access) = Some (record { kind = kind.Array a packed; exec = true; access = access })
+object_told Absent = None
+object_told Other = None
+
 -- the value that a glance tells whole; of others it tells nothing
 abbrev pub value_told : Glance → Option Value
 value_told Absent = Some value.Absent
-value_told (Integer n) = Some (value.Object (record { kind = kind.Integer n; exec = false; access = Unlimited }))
-value_told (Real r) = Some (value.Object (record { kind = kind.Real r; exec = false; access = Unlimited }))
-value_told (Boolean b) = Some (value.Object (record { kind = kind.Boolean b; exec = false; access = Unlimited }))
-value_told (Operator op) = Some (value.Object (record { kind = kind.Operator op; exec = true; access = Unlimited }))
-value_told (Procedure a packed access) = Some (value.Object (record { kind = kind.Array a.cell a.start a.len packed; exec = true; access = access }))
-value_told Other = None
+value_told g = option_map value.Object (object_told g)
 
 -- a value that a glance tells is the value that stands there
 abbrev pub GlanceLaw : Type 0

@@ -1,6 +1,7 @@
 //! A small answer to a look.
-ghost use Rattle.std.specs.Prelude.{◌≡◌};
-ghost use Rattle.vm_mem.specs.Glances.{glance_of, glance_at, glance_of_executable, glance_of_literal};
+ghost use Rattle.std.specs.Prelude.{◌≡◌, true, false};
+ghost use Rattle.ps_objects.specs.declared.access.Access.TheVariants.{Unlimited};
+ghost use Rattle.vm_mem.specs.Glances.{glance_of, glance_at, glance_of_executable, glance_of_literal, is_absent, object_told};
 
 use ps_objects::{Access, Interval, Kind, Object, Op, Real, Value};
 
@@ -45,6 +46,40 @@ impl Glance {
         }
     }
 
+    /// Whether nothing stands there.
+    pub fn is_absent(&self) -> bool
+        ensures { result ≡ is_absent self.now }
+    {
+        match self {
+            Glance::Absent => true,
+            _ => false,
+        }
+    }
+
+    /// The object, where the glance tells it whole.
+    pub fn object(&self) -> Option<Object>
+        ensures { result ≡ object_told self.now }
+    {
+        match self {
+            Glance::Integer(n) => Some(literal(Kind::Integer(*n))),
+            Glance::Real(r) => Some(literal(Kind::Real(*r))),
+            Glance::Boolean(b) => Some(literal(Kind::Boolean(*b))),
+            Glance::Operator(op) => Some(executable(Kind::Operator(*op), Access::Unlimited)),
+            Glance::Procedure {
+                interval,
+                packed,
+                access,
+            } => {
+                let array = Kind::Array {
+                    interval: *interval,
+                    packed: *packed,
+                };
+                Some(executable(array, *access))
+            }
+            Glance::Absent | Glance::Other => None,
+        }
+    }
+
     /// What a glance tells of an object.
     pub fn of(object: &Object) -> Glance
         ensures { result ≡ glance_of object.now }
@@ -57,6 +92,26 @@ impl Glance {
     }
 }
 
+fn literal(kind: Kind) -> Object
+    ensures { result ≡ record { kind = kind; exec = false; access = Unlimited } }
+{
+    Object {
+        kind,
+        exec: false,
+        access: Access::Unlimited,
+    }
+}
+
+fn executable(kind: Kind, access: Access) -> Object
+    ensures { result ≡ record { kind = kind; exec = true; access = access } }
+{
+    Object {
+        kind,
+        exec: true,
+        access,
+    }
+}
+
 fn of_executable(kind: &Kind, access: Access) -> Glance
     ensures { result ≡ glance_of_executable kind.now access }
 {
@@ -65,17 +120,8 @@ fn of_executable(kind: &Kind, access: Access) -> Glance
             Access::Unlimited => Glance::Operator(*op),
             _ => Glance::Other,
         },
-        Kind::Array {
-            cell,
-            start,
-            len,
-            packed,
-        } => Glance::Procedure {
-            interval: Interval {
-                cell: *cell,
-                start: *start,
-                len: *len,
-            },
+        Kind::Array { interval, packed } => Glance::Procedure {
+            interval: *interval,
             packed: *packed,
             access,
         },
