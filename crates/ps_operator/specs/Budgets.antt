@@ -1,13 +1,13 @@
 -- Refusals by budgets and rights.
-use Rattle.std.specs.Prelude.{ℕ, ◌+◌, Bool, false, not, ◌&&◌, ◌||◌, nat_lt, nat_eq, List, length, if◌then◌else◌, Option, Some, None, Result, Ok, Err}
+use Rattle.std.specs.Prelude.{ℕ, ◌+◌, Bool, false, not, ◌&&◌, ◌||◌, nat_lt, nat_eq, if◌then◌else◌, Option, Some, None, Result, Ok, Err}
 use Rattle.ps_objects.specs.declared.cell.Cell.{Cell}
 use Rattle.ps_names.specs.declared.error_name.ErrorName.{ErrorName}
-use Rattle.ps_names.specs.declared.error_name.ErrorName.TheVariants.{ExecStackOverflow, InvalidAccess, LimitCheck, VmError}
+use Rattle.ps_names.specs.declared.error_name.ErrorName.TheVariants.{InvalidAccess, LimitCheck, VmError}
 use Rattle.ps_objects.specs.declared.object.Kind.{Kind}
 use Rattle.ps_objects.specs.declared.section.SectionKind.{SectionKind}
-use Rattle.ps_kinds.specs.declared.frame.Frame.{Frame}
 use Rattle.ps_objects.specs.Object.{cell_named}
 use Rattle.ps_memory.specs.Memory.{is_global}
+pub use Rattle.ps_kinds.specs.Frames.{frames_room}
 use Rattle.ps_meaning.specs.Budgets.{unit_budget, message_budget, show_budget}
 
 -- n more units
@@ -39,7 +39,3 @@ storable c k = if is_global c && is_local (cell_named k) then Err InvalidAccess 
 -- an object under a key in a dictionary
 abbrev pub storable_entry : Cell → Option Cell → Kind → Result (Unit {0}) ErrorName
 storable_entry d key k = if is_barred d || (is_global d && (is_local key || is_local (cell_named k))) then Err InvalidAccess else Ok tt
-
--- n more frames
-abbrev pub frames_room : ℕ → List Frame → Result (Unit {0}) ErrorName
-frames_room n frames = if nat_lt 1000 (length frames + n) then Err ExecStackOverflow else Ok tt

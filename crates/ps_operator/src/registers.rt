@@ -5,7 +5,7 @@ ghost use Rattle.ps_meaning.specs.Budgets.{unit_budget};
 ghost use Rattle.ps_operator.specs.Budgets as spec;
 
 use ps_kinds::{
-    Access, Cell, DictStack, ErrorName, FRAME_LIMIT, Frames, Kind, Object, SectionKind, Space,
+    Access, Cell, DictStack, ErrorName, Kind, Object, SectionKind, Space,
 };
 
 /// A literal object.
@@ -91,15 +91,4 @@ pub fn storable_entry(dict: Cell, key: Option<Cell>, kind: &Kind) -> Result<(), 
         return Err(ErrorName::InvalidAccess);
     }
     Ok(())
-}
-
-/// Whether `n` more frames stay within the limit: execstackoverflow.
-pub fn frames_room(frames: &Frames, n: usize) -> Result<(), ErrorName>
-    ensures { result ≡ spec.frames_room n frames.now }
-{
-    if frames.len() <= FRAME_LIMIT && n <= FRAME_LIMIT - frames.len() {
-        Ok(())
-    } else {
-        Err(ErrorName::ExecStackOverflow)
-    }
 }
