@@ -25,7 +25,7 @@ apart x e = cc
 -- ---- where more stands
 
 module _ (K J : Shapes) (same : (c : Cell) → K c ≢ None → J c ≡ K c) where
-  cell_stays : (o : Option Cell) (f : Shape → Bool) → FitsCell K o f → FitsCell J o f
+  pub cell_stays : (o : Option Cell) (f : Shape → Bool) → FitsCell K o f → FitsCell J o f
   cell_stays None f h = tt
   cell_stays (Some c) f h = (h.0, same c (λ a. apart h.0 (sym h.1 ∙ a)) ∙ h.1, h.2)
 

@@ -5,3 +5,4 @@ pub mod Kin
 pub mod Start
 pub mod Answer
 pub mod Looks
+mod Clauses

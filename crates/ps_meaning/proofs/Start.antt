@@ -269,4 +269,4 @@ module _ (n : ℕ) (matrix : Matrix) (width height : ℕ) where
   }
 
 pub start_law : StartLaw
-start_law n matrix width height = record { registers = registers n matrix width height; memory = memory n matrix width height }
+start_law matrix width height = record { registers = λ n. registers n matrix width height; memory = λ n. memory n matrix width height }

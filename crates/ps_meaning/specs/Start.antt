@@ -151,4 +151,4 @@ start_registers matrix width height = record {
 
 -- a job starts in a sound state
 abbrev pub StartLaw : Type 0
-StartLaw = (n : ℕ) (matrix : Matrix) (width height : ℕ) → SoundState n (start_registers matrix width height) (start_memory width height)
+StartLaw = (matrix : Matrix) (width height : ℕ) → SoundState (start_registers matrix width height) (start_memory width height)

@@ -1,6 +1,6 @@
 //! The search for a name.
 ghost use Rattle.std.specs.Prelude.{◌≡◌, true, OnOk, IfOk};
-ghost use Rattle.ps_operator.specs.Tree.{Yields, reads};
+ghost use Rattle.ps_operator.specs.Owes.{Yields};
 ghost use Rattle.ps_operator.specs.Standing.{is_dict, are_dicts};
 ghost use Rattle.ps_operator.specs.Keys as spec;
 
@@ -21,7 +21,7 @@ pub fn seek<M: Mem>(dicts: &DictStack, key: &Key, mem: &mut M) -> Result<Sought,
     requires { are_dicts (M.log mem.old).view dicts.now ≡ true }
     ensures view { OnOk result ((M.log mem.new).view ≡ (M.log mem.old).view) }
     ensures dict { IfOk result (λ sought. is_dict (M.log mem.new).view sought.dict ≡ true) }
-    ensures told { Yields (reads (spec.seek dicts.now key.now) (M.log mem.old)) result (M.log mem.new) }
+    ensures told { Yields (spec.seek dicts.now key.now) (M.log mem.old) result (M.log mem.new) }
 {
     let hash = hash_of(key);
     for depth in 0..dicts.len() {
@@ -39,7 +39,7 @@ pub fn seek<M: Mem>(dicts: &DictStack, key: &Key, mem: &mut M) -> Result<Sought,
 pub fn find<M: Mem>(dicts: &DictStack, key: Key, mem: &mut M) -> Result<Object, Refusal>
     requires { are_dicts (M.log mem.old).view dicts.now ≡ true }
     ensures view { OnOk result ((M.log mem.new).view ≡ (M.log mem.old).view) }
-    ensures told { Yields (reads (spec.find dicts.now key) (M.log mem.old)) result (M.log mem.new) }
+    ensures told { Yields (spec.find dicts.now key) (M.log mem.old) result (M.log mem.new) }
 {
     let sought = match seek(dicts, &key, mem) {
         Ok(sought) => sought,
