@@ -6,7 +6,7 @@ ghost use Rattle.ps_objects.specs.Order.{cell_order, key_order};
 ghost use Rattle.ps_memory.specs.Frame.{FrameLaw};
 ghost use Rattle.ps_memory.specs.Order.{cell_cmp, key_cmp};
 ghost use Rattle.ps_memory.specs.Track.{TrackLaw};
-ghost use Rattle.ps_memory.specs.Writes.{CertificateLaw, ReplacingLaw};
+ghost use Rattle.ps_memory.specs.Writes.{CertificateLaw, ReplacingLaw, RestoringLaw};
 
 use ps_objects::{Cell, Key};
 
@@ -31,6 +31,11 @@ pub fn certificate_law<A>()
 /// A store may take the place of an earlier one among the writes.
 pub fn replacing_law()
     ensures { ReplacingLaw }
+{}
+
+/// A restore of a save that the writes open takes some of them back: those that are left can be done, and leave what the restore leaves.
+pub fn restoring_law()
+    ensures { RestoringLaw }
 {}
 
 /// What is known of a run as it goes on, from its looks and actions alone, is what its trail tells.
