@@ -13,7 +13,7 @@ use Rattle.ps_kinds.specs.declared.state.State.{State}
 use Rattle.ps_memory.specs.Memory.{Memory, value_at, shape_of, Action, store, fresh, save, restore, perform, lift}
 use Rattle.ps_memory.specs.Tree.{Change, puts, makes, opens, action_of, Application, done, restores, fail, look, ask, applied, Step, did, result, after, trail}
 use Rattle.ps_memory.specs.Ownership.{has_save}
-use Rattle.ps_memory.specs.Track.{Track, saw, paper_lifted, acted, track_on, outer_on}
+use Rattle.ps_memory.specs.Track.{Track, saw, paper_lifted, track_acted, track_on, outer_on}
 
 -- goes on with what was read, or fails
 abbrev pub read : {A B : Type 0} → Result A ErrorName → (A → Application B) → Application B
@@ -29,7 +29,7 @@ abbrev pub looked_in : Log → Loc → Log
 looked_in log l = record { view = log.view; track = option_map (saw l) log.track }
 
 abbrev pub acted_in : Log → Action → Log
-acted_in log w = record { view = perform w log.view; track = option_map (acted w) log.track }
+acted_in log w = record { view = perform w log.view; track = option_map (track_acted w) log.track }
 
 -- the paper is looked at and taken out
 abbrev pub lifted_in : Log → Log

@@ -13,7 +13,7 @@ use Rattle.ps_objects.specs.declared.place.Value.{Value}
 use Rattle.ps_objects.specs.declared.place.Value.TheVariants as value
 use Rattle.ps_objects.specs.declared.place.Shape.{Shape}
 use Rattle.ps_objects.specs.declared.place.Shape.TheVariants as shape
-use Rattle.ps_memory.specs.Memory.{is_global, newer, same_save, Cells, Memory, Slot, whole, Spot, held, rand, paper, spot_of, here, is, in_content, at, shape_in, shape_at, standing, is_kind, store, fresh, save, restore, tell}
+use Rattle.ps_memory.specs.Memory.{is_global, newer, same_save, CellMap, Memory, Slot, whole, Spot, held, rand, paper, spot_of, here, is, in_content, at, shape_in, shape_at, standing_shape, is_kind, store, fresh, save, restore, tell}
 use Rattle.ps_memory.specs.Tree.{Tree, ends, looks, acts, asks, result, after}
 use Rattle.ps_memory.specs.Ownership.{same_cell}
 use Rattle.ps_memory.specs.Frame.{later, Safe}
@@ -72,12 +72,12 @@ abbrev pub without_newer : SaveName → Shapes → Shapes
 without_newer s K c = cond (newer c s) None (K c)
 
 -- a copy of the local part, of these shapes
-pub record SoundCopy (J : Shapes) (C : Cells) : Type 0 where
+pub record SoundCopy (J : Shapes) (C : CellMap) : Type 0 where
   pub shapes : (c : Cell) → is_global c ≡ false → shape_in (in_content (get C c) whole) ≡ J c
   pub slots : (c : Cell) (t : Slot) → is_global c ≡ false → FitsFound J t (in_content (get C c) t)
 
 -- Each copy fits what its restore would leave. Names fall along the list, and none is of section 0.
-abbrev pub SoundKept : Shapes → List SaveName → List (SaveName × Cells) → Type 0
+abbrev pub SoundKept : Shapes → List SaveName → List (SaveName × CellMap) → Type 0
 SoundKept K [] [] = ⊤
 SoundKept K (s ∷ saves) (k ∷ kept) = (k.0 ≡ s) × (1 ≤ s.section) × SoundCopy (without_newer s K) k.1 × AllByRecursion (λ r. later s r ≡ true) saves × SoundKept K saves kept
 SoundKept K _ _ = ⊥
@@ -156,7 +156,7 @@ Lawful (acts (fresh c sh) t) W Q = IsNew c W × Lawful t (made c sh W) Q
 Lawful (acts (save s) t) W Q = IsNewSave s W × Lawful t (saved_at s W) Q
 Lawful (acts (restore s) t) W Q = (has_name s W.saves ≡ true) × Lawful t (restored_to s W) Q
 Lawful (acts (tell o) t) W Q = Lawful t W Q
-Lawful (asks c f) W Q = (W.shapes c ≢ None) × Lawful (f (standing (W.shapes c))) W Q
+Lawful (asks c f) W Q = (W.shapes c ≢ None) × Lawful (f (standing_shape (W.shapes c))) W Q
 
 -- no cell of another section changes its shape or comes, and no save of another section comes
 pub record StaysKin (W V : World) : Type 0 where

@@ -31,8 +31,8 @@ pub data Content : Type 0 where
   items : List Object → Content
   characters : (len : ℕ) → Content
 
-abbrev pub Cells : Type 0
-Cells = FinMap cell_cmp Content
+abbrev pub CellMap : Type 0
+CellMap = FinMap cell_cmp Content
 
 -- the paper, or the size of the paper that an operator has in its hands
 pub data Page : Type 0 where
@@ -41,12 +41,12 @@ pub data Page : Type 0 where
 
 -- the newest copy comes first; a copy is the local part as it stood when the save was made
 pub record Memory : Type 0 where
-  pub locals : Cells
-  pub globals : Cells
+  pub locals : CellMap
+  pub globals : CellMap
   pub strings : FinMap cell_cmp (List ℕ)
   pub rand : ℕ
   pub page : Page
-  pub kept : List (SaveName × Cells)
+  pub kept : List (SaveName × CellMap)
 
 -- ---- places
 
@@ -108,7 +108,7 @@ abbrev pub in_string : Option (List ℕ) → ℕ → Found
 in_string None i = is value.Absent
 in_string (Some bs) i = byte_found (slice_get bs i)
 
-abbrev pub part : Memory → Cell → Cells
+abbrev pub part : Memory → Cell → CellMap
 part M c = cond (is_global c) M.globals M.locals
 
 abbrev pub at : Memory → Spot → Found
@@ -117,9 +117,9 @@ at M (byte c i) = in_string (get M.strings c) i
 at M rand = is (value.Rand M.rand)
 at M paper = page_found M.page
 
-abbrev pub told : Found → Value
-told (is v) = v
-told (shaped s) = value.Absent
+abbrev pub value_found : Found → Value
+value_found (is v) = v
+value_found (shaped s) = value.Absent
 
 -- the keys of a dictionary's entries, in their order
 abbrev pub keys_of : Option Content → Value
@@ -129,13 +129,13 @@ keys_of (Some (items xs)) = value.Absent
 keys_of (Some (characters n)) = value.Absent
 
 abbrev pub seen_at : Memory → Spot → Value
-seen_at M (held c (entry k)) = told (at M (held c (entry k)))
-seen_at M (held c access) = told (at M (held c access))
-seen_at M (held c (item i)) = told (at M (held c (item i)))
+seen_at M (held c (entry k)) = value_found (at M (held c (entry k)))
+seen_at M (held c access) = value_found (at M (held c access))
+seen_at M (held c (item i)) = value_found (at M (held c (item i)))
 seen_at M (held c whole) = keys_of (get (part M c) c)
-seen_at M (byte c i) = told (at M (byte c i))
-seen_at M rand = told (at M rand)
-seen_at M paper = told (at M paper)
+seen_at M (byte c i) = value_found (at M (byte c i))
+seen_at M rand = value_found (at M rand)
+seen_at M paper = value_found (at M paper)
 
 -- the value at a place: absent where its cell doesn't stand or is of another kind, or the place is out of range
 abbrev pub value_at : Memory → Loc → Value
@@ -149,13 +149,13 @@ shape_in (shaped s) = Some s
 abbrev pub shape_at : Memory → Cell → Option Shape
 shape_at M c = shape_in (at M (held c whole))
 
-abbrev pub standing : Option Shape → Shape
-standing None = shape.Dict 0
-standing (Some s) = s
+abbrev pub standing_shape : Option Shape → Shape
+standing_shape None = shape.Dict 0
+standing_shape (Some s) = s
 
 -- the shape of a cell that stands
 abbrev pub shape_of : Memory → Cell → Shape
-shape_of M c = standing (shape_at M c)
+shape_of M c = standing_shape (shape_at M c)
 
 -- ---- which places are there, and which values they take
 
@@ -236,7 +236,7 @@ put_page _ old = old
 abbrev pub put_cell : {X : Type 0} → Cell → (X → X) → FinMap cell_cmp X → FinMap cell_cmp X
 put_cell c f m = elim (get m c) [ None ↦ m | Some x ↦ insert m c (f x) ]
 
-abbrev pub with_part : Memory → Cell → (Cells → Cells) → Memory
+abbrev pub with_part : Memory → Cell → (CellMap → CellMap) → Memory
 with_part M c f = cond (is_global c) (record M { globals = f M.globals }) (record M { locals = f M.locals })
 
 abbrev pub do_store : Spot → Value → Memory → Memory
@@ -262,26 +262,26 @@ new_bytes c (shape.Str n) m = insert m c (replicate n 0)
 abbrev pub do_fresh : Cell → Shape → Memory → Memory
 do_fresh c sh M = record (with_part M c (λ m. insert m c (content_of sh))) { strings = new_bytes c sh M.strings }
 
-abbrev pub copy_named : SaveName → List (SaveName × Cells) → Option Cells
+abbrev pub copy_named : SaveName → List (SaveName × CellMap) → Option CellMap
 copy_named s [] = None
 copy_named s (k ∷ kept) = cond (same_save s k.0) (Some k.1) (copy_named s kept)
 
-abbrev pub older_than : SaveName → List (SaveName × Cells) → List (SaveName × Cells)
+abbrev pub older_than : SaveName → List (SaveName × CellMap) → List (SaveName × CellMap)
 older_than s [] = []
 older_than s (k ∷ kept) = cond (same_save s k.0) kept (older_than s kept)
 
 -- The copy takes the local part's place; the bytes of strings newer than the save go, and those of others stay
 -- (section 3.7.3 of the language manual: save and restore).
-abbrev pub put_back : SaveName → Option Cells → Memory → Memory
-put_back s None M = M
-put_back s (Some copy) M =
+abbrev pub do_restore : SaveName → Option CellMap → Memory → Memory
+do_restore s None M = M
+do_restore s (Some copy) M =
     record M { locals = copy; strings = retain_keys M.strings (λ c. not (newer c s)); kept = older_than s M.kept }
 
 abbrev pub perform : Action → Memory → Memory
 perform (store l v) M = do_store (spot_of l) v M
 perform (fresh c sh) M = do_fresh c sh M
 perform (save s) M = record M { kept = (s, M.locals) ∷ M.kept }
-perform (restore s) M = put_back s (copy_named s M.kept) M
+perform (restore s) M = do_restore s (copy_named s M.kept) M
 perform (tell o) M = M
 
 -- ---- paper in an operator's hands
@@ -289,10 +289,10 @@ perform (tell o) M = M
 abbrev pub blank : ℕ → ℕ → Sheet
 blank width height = drawn width height (λ _ _. false)
 
-abbrev pub taken_out : Page → Page
-taken_out (here p) = out p.width p.height
-taken_out (out w h) = out w h
+abbrev pub page_out : Page → Page
+page_out (here p) = out p.width p.height
+page_out (out w h) = out w h
 
 -- memory while an operator has the paper in its hands
 abbrev pub lift : Memory → Memory
-lift M = record M { page = taken_out M.page }
+lift M = record M { page = page_out M.page }

@@ -21,21 +21,21 @@ saw l k = record { owned = k.owned; seen = cond (owns k.owned l || is_among l k.
 abbrev pub paper_lifted : Track → Track
 paper_lifted k = record { owned = (saw loc.Paper k).owned; seen = (saw loc.Paper k).seen; written = with_empty_paper k.written }
 
-abbrev pub acted : Action → Track → Track
-acted w k = record { owned = own w k.owned; seen = k.seen; written = note w k.written }
+abbrev pub track_acted : Action → Track → Track
+track_acted w k = record { owned = own w k.owned; seen = k.seen; written = note w k.written }
 
 abbrev pub track_on : {A : Type 0} → Tree A → Memory → Track → Track
 track_on (ends a) M k = k
 track_on (looks l f) M k = track_on (f (value_at M l)) M (saw l k)
-track_on (acts w t) M k = track_on t (perform w M) (acted w k)
+track_on (acts w t) M k = track_on t (perform w M) (track_acted w k)
 track_on (asks c f) M k = track_on (f (shape_of M c)) M k
 
 -- the first restore of a save that is none of the track's
 abbrev pub outer_on : {A : Type 0} → Tree A → Memory → Track → Option SaveName
 outer_on (ends a) M k = None
 outer_on (looks l f) M k = outer_on (f (value_at M l)) M (saw l k)
-outer_on (acts (restore s) t) M k = cond (has_save s k.owned.saves) (outer_on t (perform (restore s) M) (acted (restore s) k)) (Some s)
-outer_on (acts w t) M k = outer_on t (perform w M) (acted w k)
+outer_on (acts (restore s) t) M k = cond (has_save s k.owned.saves) (outer_on t (perform (restore s) M) (track_acted (restore s) k)) (Some s)
+outer_on (acts w t) M k = outer_on t (perform w M) (track_acted w k)
 outer_on (asks c f) M k = outer_on (f (shape_of M c)) M k
 
 abbrev pub nothing_tracked : Track
