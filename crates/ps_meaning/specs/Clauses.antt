@@ -95,6 +95,7 @@ pub record SavesAgree (R : Regs) (M : Memory) : Type 0 where
 abbrev pub PaperFits : Regs → Memory → Type 0
 PaperFits R M = size_of_page M.page ≡ record { width = R.state.wide; height = R.state.high }
 
+-- registers and a memory that meet the six clauses
 pub record IsSound (R : Regs) (M : Memory) : Type 0 where
   pub memory : IsMemory M
   pub names : NamesStanding R M

@@ -16,6 +16,7 @@ abbrev pub apply : List Action → Memory → Memory
 apply [] M = M
 apply (w ∷ ws) M = perform w (apply ws M)
 
+-- a restore and an output are never among the writes
 abbrev pub is_write : Action → Bool
 is_write (store l v) = true
 is_write (fresh c sh) = true
@@ -64,6 +65,7 @@ note (save s) ws = save s ∷ ws
 note (restore s) ws = writes_left s ws
 note (tell o) ws = ws
 
+-- the writes after further steps of a trail
 abbrev pub writes_from : List Action → List Step → List Action
 writes_from ws [] = ws
 writes_from ws (looked_at l ∷ steps) = writes_from ws steps
@@ -80,6 +82,7 @@ pub record Holds {A : Type 0} (t : Tree A) (B M : Memory) : Type 0 where
   pub applicable : Applicable (writes (trail t B)) M
   pub written : after t M ≡ apply (writes (trail t B)) M
 
+-- a run holds on each kin memory that has the values of its looked places, where it has no outer restore
 abbrev pub CertificateLaw : Type 0 → Type 0
 CertificateLaw A = (t : Tree A) (B M : Memory) → Safe t B → Safe t M → Kin B M → outer (trail t B) ≡ None
     → AllByRecursion (λ l. value_at B l ≡ value_at M l) (looked (trail t B)) → Holds t B M

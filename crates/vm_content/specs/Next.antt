@@ -10,6 +10,7 @@ use Rattle.ps_objects.specs.declared.place.Shape.{Shape}
 use Rattle.ps_memory.specs.Memory.{is_global, CellMap, whole, in_content, shape_in}
 use Rattle.ps_memory.specs.Next.{comes_before, is_after}
 
+-- the cell is of the space
 abbrev pub is_in : Space → Cell → Bool
 is_in Local c = not (is_global c)
 is_in Global c = is_global c

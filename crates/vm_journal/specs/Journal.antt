@@ -47,6 +47,7 @@ abbrev pub all_of_kind : List Note → Bool
 all_of_kind [] = true
 all_of_kind (e ∷ notes) = is_kind (spot_of e.0) e.1 && all_of_kind notes
 
+-- the name is later than those of all saves
 abbrev pub is_latest : SaveName → List Saved → Bool
 is_latest s [] = true
 is_latest s (r ∷ saves) = later s r.0 && is_latest s saves

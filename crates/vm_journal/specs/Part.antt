@@ -22,12 +22,15 @@ pub record Part : Type 0 where
 abbrev pub AreLocal : CellMap → Type 0
 AreLocal m = (c : Cell) → is_global c ≡ true → get m c ≡ None
 
+-- cells are told from each other by what they hold
 abbrev pub cells_code : Coded CellMap
 cells_code = map.code cells.the_row.coded content_code
 
+-- kept copies by their names and cells
 abbrev pub kept_code : Coded (List (SaveName × CellMap))
 kept_code = coded_list (coded× saves.the_row.coded cells_code)
 
+-- local parts by their cells and copies
 abbrev pub part_code : Coded Part
 part_code = code_by (CellMap × List (SaveName × CellMap)) (coded× cells_code kept_code) (λ p. (p.cells, p.kept)) (λ p. record { cells = p.0; kept = p.1 }) (λ _. refl)
 
@@ -45,6 +48,7 @@ abbrev pub Closes : Option SaveName → Part → Part → FinMap cell_cmp (List 
 Closes None old new before after = (old.kept ≡ []) × (new ≡ old) × (after ≡ before)
 Closes (Some s) old new before after = (old.kept ≡ (s, new.cells) ∷ new.kept) × (after ≡ kept_from s before) × AllByRecursion (λ k. later s k.0 ≡ true) new.kept
 
+-- the list has nothing
 abbrev pub is_empty : {X : Type 0} → List X → Bool
 is_empty [] = true
 is_empty (x ∷ xs) = false
