@@ -232,6 +232,29 @@ pub made_keeps : {text : List ℕ} {s : State} {W : World} → Fits text W s →
     → Keeps text 4 s.frames (done (makes (next_cell s) sh ∷ []) (quiet (spent (with_ops s xs) n))) s W
 made_keeps {text = text} {s = s} {W = W} f sh xs n h u = record { lawful = (sym f.state.section, refl, made_leaves text s W f (next_cell s) sh xs n refl refl h u) }
 
+-- the next cell, which costs no units
+pub free_keeps : {text : List ℕ} {s : State} {W : World} → Fits text W s → (sh : Shape) (xs : List Object) → Fit (with_cell (next_cell s) sh W.shapes) xs
+    → Keeps text 4 s.frames (done (makes (next_cell s) sh ∷ []) (quiet (with_ops s xs))) s W
+free_keeps {text = text} {s = s} {W = W} f sh xs h =
+    let l = made_leaves text s W f (next_cell s) sh xs 0 refl refl h (same_units s.units (unit_budget s.kind) f.state.budget.units) in
+    record {
+      lawful = (
+        sym f.state.section,
+        refl,
+        record {
+          registers = l.registers;
+          frames = l.frames;
+          act = tt;
+          budget = record { turns = f.state.budget.turns; units = f.state.budget.units; shows = f.state.budget.shows; said = f.state.budget.said };
+          within = f.within;
+          names = omega arith;
+        },
+      );
+    }
+  where
+    same_units : (n b : ℕ) → n ≤ b → n + 0 ≤ b
+    same_units n b h = omega arith
+
 -- what the next cell's object names stands, and the other operands fit as before
 pub new_fits : {text : List ℕ} {s : State} {W : World} → Fits text W s → (sh : Shape) (x : Object) (xs : List Object) → cell_named x.kind ≡ Some (next_cell s) → takes x.kind sh ≡ true → Fit W.shapes xs → Fit (with_cell (next_cell s) sh W.shapes) (x ∷ xs)
 new_fits {text = text} {s = s} {W = W} f sh x xs e t h = (

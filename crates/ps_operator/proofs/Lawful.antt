@@ -250,11 +250,11 @@ key_keeps {text = text} {most = most} {below = below} {s = s} {W = W} {fm = fm} 
 pub find_keeps : {text : List ℕ} {most : ℕ} {below : List Frame} {s : State} {W : World} {k : Object → Ask} (ds : List Cell) (j : Key) → AllByRecursion (IsDict W.shapes) ds → ((x : Object) → FitsObject W.shapes x → Keeps text most below (k x) s W) → Keeps text most below (look_then (find ds j) k) s W
 find_keeps {text = text} {most = most} {below = below} {s = s} {W = W} {k = k} ds j h g = record { lawful = find_kept text most below s W ds j k h (λ x e. (g x e).lawful) }
 
-frames_append : (K : Shapes) (fs gs : List Frame) → FitFrames K fs → FitFrames K gs → FitFrames K (fs ++ gs)
+pub frames_append : (K : Shapes) (fs gs : List Frame) → FitFrames K fs → FitFrames K gs → FitFrames K (fs ++ gs)
 frames_append K [] gs h g = g
 frames_append K (f ∷ fs) gs h g = (h.0, frames_append K fs gs h.1 g)
 
-newest_fits : (K : Shapes) (fs : List Frame) → FitFrames K fs → FitFrames K (newest fs)
+pub newest_fits : (K : Shapes) (fs : List Frame) → FitFrames K fs → FitFrames K (newest fs)
 newest_fits K [] h = tt
 newest_fits K (f ∷ fs) h = (h.0, tt)
 

@@ -5,6 +5,7 @@ pub mod Looks
 pub mod Registers
 pub mod Budgets
 pub mod Keys
+pub mod Arrays
 pub mod Making
 pub mod Numbers
 pub mod Lawful
@@ -12,3 +13,4 @@ pub mod Storing
 pub mod Marks
 pub mod Copies
 pub mod Operators
+pub mod Newer

@@ -1,0 +1,4 @@
+pub mod Standing
+pub mod Starting
+pub mod Again
+pub mod Onward

@@ -1,0 +1,15 @@
+use Rattle.std.proofs.Common.{◌≡◌, ◌+◌, true, drop}
+use Rattle.ps_meaning.specs.Answer.{changed_in}
+use Rattle.ps_operator.specs.Standing.{is_array, Stays}
+use Rattle.ps_operator.specs.Storing.{item_stores}
+use Rattle.ps_operator.proofs.arrays.store_items.Given as goal
+
+-- what is left changes what the whole changes
+abbrev pub invariant-loop-at : goal.invariant-loop-at
+invariant-loop-at g l =
+    let log = g.M.Mem.log in
+    record {
+      stored : changed_in (log l.mem) (item_stores l.array (l.from + l.at) (drop l.at l.items)) ≡ changed_in (log l.fn.mem) (item_stores l.array l.from l.items);
+      stays : Stays (log l.fn.mem).view (log l.mem).view;
+      array : is_array (log l.mem).view l.array ≡ true;
+    }
