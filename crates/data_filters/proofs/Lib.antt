@@ -1,0 +1,6 @@
+pub mod CodeLemmas
+pub mod DecodedLemmas
+pub mod FoundLemmas
+pub mod Readings
+pub mod RunLemmas
+pub mod SourceLemmas

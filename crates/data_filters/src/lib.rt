@@ -1,0 +1,11 @@
+//! Plain decoding filters: the bytes that layers over a section's text give.
+#![tactic(auto)]
+
+mod ahead;
+mod code;
+mod digits;
+mod found;
+mod given;
+mod reading;
+
+pub use given::Given;

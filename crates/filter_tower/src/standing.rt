@@ -1,0 +1,115 @@
+//! Where the layers of a tower stand.
+ghost use Rattle.std.specs.Prelude.{◌≡◌, ◌<◌, ◌==◌, [], ◌∷◌, ◌++◌, length, slice_get, slice_set, Some, OnOk, OnErr};
+
+use crate::{CodeBytes, NoMemory};
+use std::alloc::Global;
+use std::marker::Model;
+
+/// Whether a layer still takes codes from its source, has come to its end or was closed, or has met a wrong byte.
+#[derive(Clone, Copy, PartialEq, Eq)]
+pub enum FilterState {
+    Open,
+    Ended,
+    Failed,
+}
+
+/// Where a layer stands.
+#[derive(Drop)]
+pub struct Standing {
+    /// The bytes of its newest code.
+    pub code: CodeBytes,
+
+    /// How many of them it has given.
+    pub from: usize,
+
+    /// How many bytes its codes have given, with all of the newest; it stands still at its type's end.
+    pub given: u64,
+    pub state: FilterState,
+}
+
+impl Standing {
+    ghost use Rattle.filter_tower.specs.Layers.{empty_standing};
+
+    /// A layer without bytes of a code.
+    pub fn empty(state: FilterState) -> Standing
+        ensures { result ≡ empty_standing state }
+    {
+        Standing {
+            code: CodeBytes::none(),
+            from: 0,
+            given: 0,
+            state,
+        }
+    }
+
+    pub fn copy(&self) -> Standing
+        ensures { result ≡ self.now }
+    {
+        Standing {
+            code: self.code.copy(),
+            from: self.from,
+            given: self.given,
+            state: self.state,
+        }
+    }
+}
+
+/// Where layers stand, the first layer first.
+#[derive(Drop)]
+pub struct Standings {
+    items: Vec<Standing>,
+}
+
+impl Model for Standings {
+    ghost use Rattle.std.specs.Prelude.{List};
+    ghost use Rattle.filter_tower.specs.declared.standing.Standing.{Standing};
+
+    ghost Value = { List Standing };
+
+    ghost view = { λ standings. standings.items.items };
+}
+
+impl Standings {
+    pub fn new(alloc: Global) -> Standings
+        ensures { result ≡ [] }
+    {
+        Standings {
+            items: Vec::new(alloc),
+        }
+    }
+
+    pub fn len(&self) -> usize
+        ensures { result ≡ length self.now }
+    {
+        self.items.len()
+    }
+
+    pub fn is_empty(&self) -> bool
+        ensures { result ≡ (length self.now == 0) }
+    {
+        self.items.is_empty()
+    }
+
+    pub fn at(&self, place: usize) -> &Standing
+        requires { place < length self.now }
+        ensures { slice_get self.now place ≡ Some result.now }
+    {
+        &self.items[place]
+    }
+
+    pub fn put(&mut self, place: usize, standing: Standing)
+        requires { place < length self.old }
+        ensures { self.new ≡ slice_set self.old place standing }
+    {
+        self.items[place] = standing;
+    }
+
+    /// Appends where a layer stands. Where memory runs out all is as it was.
+    pub fn push(&mut self, standing: Standing) -> Result<(), NoMemory>
+        ensures ok { OnOk result (self.new ≡ self.old ++ standing ∷ []) }
+        ensures err { OnErr result (self.new ≡ self.old) }
+    {
+        self.items.push(standing)?;
+        Ok(())
+    }
+}
