@@ -206,7 +206,7 @@ reads_text text layers source old new g z e =
     let is : source_of layers source ≡ the_text = ap (source_of layers) z ∙ source_zero layers in
     subst (λ s. Yields (rest text s old) g (rest text s new)) (sym is) (text_yields text old new g e)
 
-below_is : (layers : List FilterLayer) (k : ℕ) → IsTower layers → k < length layers → IsBelow k (source_of layers (below_at layers k))
+pub below_is : (layers : List FilterLayer) (k : ℕ) → IsTower layers → k < length layers → IsBelow k (source_of layers (below_at layers k))
 below_is layers k tower h =
     let lower : below_at layers k ≤ k = tower.lower k h in
     below_longer (below_at layers k) k (source_of layers (below_at layers k)) lower (source_is_below layers (below_at layers k) tower (omega (arith, lower, h)))
@@ -226,8 +226,8 @@ pub reads_ended : (text : List ℕ) (layers : List FilterLayer) (source k : ℕ)
 reads_ended text layers source k old new standing tower h e p at state =
     let at_new : slice_get old.standings k ≡ Some standing = ap (λ (r : Reading). slice_get r.standings k) (sym p.1) ∙ at in
     let is : rest text (source_of layers source) old ≡ ended =
-        ap (λ s. rest text s old) (source_up layers source k tower h e)
-        ∙ rest_ended text k (kind_at layers k) (source_of layers (below_at layers k)) old p.0 (ap (λ (x : Standing). x.state) (standing_is old k standing at_new) ∙ state)
+    ap (λ s. rest text s old) (source_up layers source k tower h e)
+    ∙ rest_ended text k (kind_at layers k) (source_of layers (below_at layers k)) old p.0 (ap (λ (x : Standing). x.state) (standing_is old k standing at_new) ∙ state)
     in
     (is, ap (rest text (source_of layers source)) p.1 ∙ is)
 
@@ -237,8 +237,8 @@ pub reads_failed : (text : List ℕ) (layers : List FilterLayer) (source k : ℕ
 reads_failed text layers source k old new standing tower h e p at state =
     let at_new : slice_get old.standings k ≡ Some standing = ap (λ (r : Reading). slice_get r.standings k) (sym p.1) ∙ at in
     let is : rest text (source_of layers source) old ≡ broken =
-        ap (λ s. rest text s old) (source_up layers source k tower h e)
-        ∙ rest_failed text k (kind_at layers k) (source_of layers (below_at layers k)) old p.0 (ap (λ (x : Standing). x.state) (standing_is old k standing at_new) ∙ state)
+    ap (λ s. rest text s old) (source_up layers source k tower h e)
+    ∙ rest_failed text k (kind_at layers k) (source_of layers (below_at layers k)) old p.0 (ap (λ (x : Standing). x.state) (standing_is old k standing at_new) ∙ state)
     in
     (is, ap (rest text (source_of layers source)) p.1 ∙ is)
 
@@ -251,7 +251,7 @@ pub reads_code : (text : List ℕ) (layers : List FilterLayer) (source k : ℕ) 
     → IsTower layers → source ≤ length layers → source ≡ suc k → length layers ≤ length old.standings → GivesPending k old None held
     → slice_get held.standings k ≡ Some standing → standing.state ≡ Open
     → Finds (get_or layers k other).kind standing.given (rest text (source_of layers (get_or layers k one).below) held) found
-        (rest text (source_of layers (get_or layers k one).below) middle)
+    (rest text (source_of layers (get_or layers k one).below) middle)
     → length middle.standings ≡ length held.standings → begun k standing.given found.is_cut middle found.code ≡ (g, new)
     → Yields (rest text (source_of layers source) old) g (rest text (source_of layers source) new)
 reads_code text layers source k old held middle new found g standing one other tower h e room p at state finds same is =
@@ -264,15 +264,15 @@ reads_code text layers source k old held middle new found g standing one other t
     let below_same : source_of layers (get_or layers k one).below ≡ below = ap (λ (x : FilterLayer). source_of layers x.below) (sym (layer_is layers k one lt)) in
     let given_is : standing.given ≡ (standing_at old k).given = ap (λ (x : Standing). x.given) (sym stands) in
     let room_then : k < length middle.standings =
-        let lengths : length held.standings ≡ length old.standings = ap (λ (r : Reading). length r.standings) p.1 in omega (arith, lt, room, same, lengths)
+    let lengths : length held.standings ≡ length old.standings = ap (λ (r : Reading). length r.standings) p.1 in omega (arith, lt, room, same, lengths)
     in
     let found_old : Finds kind (standing_at old k).given (rest text below old) found (rest text below middle) =
-        subst (λ x. Finds x (standing_at old k).given (rest text below old) found (rest text below middle)) kind_is
-        (subst (λ n. Finds (get_or layers k other).kind n (rest text below old) found (rest text below middle)) given_is
-        (subst (λ r. Finds (get_or layers k other).kind standing.given (rest text below r) found (rest text below middle)) p.1
-        (subst (λ s. Finds (get_or layers k other).kind standing.given (rest text s held) found (rest text s middle)) below_same finds)))
+    subst (λ x. Finds x (standing_at old k).given (rest text below old) found (rest text below middle)) kind_is
+    (subst (λ n. Finds (get_or layers k other).kind n (rest text below old) found (rest text below middle)) given_is
+    (subst (λ r. Finds (get_or layers k other).kind standing.given (rest text below r) found (rest text below middle)) p.1
+    (subst (λ s. Finds (get_or layers k other).kind standing.given (rest text s held) found (rest text s middle)) below_same finds)))
     in
     subst (λ s. Yields (rest text s old) g (rest text s new)) (sym (source_up layers source k tower h e))
     (begun_yields text k kind below old middle new found.code found.is_cut g (below_is layers k tower lt) room_then p.0
-        (ap (λ (x : Standing). x.state) stands ∙ state) found_old.code_is found_old.leaves
-        (ap (λ n. begun k n found.is_cut middle found.code) (sym given_is) ∙ is))
+    (ap (λ (x : Standing). x.state) stands ∙ state) found_old.code_is found_old.leaves
+    (ap (λ n. begun k n found.is_cut middle found.code) (sym given_is) ∙ is))

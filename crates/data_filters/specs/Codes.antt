@@ -140,9 +140,25 @@ code Base85 so_far rest = group 5 0 rest
 code RunLength so_far rest = run rest
 code (SubFile count mark) so_far rest = part count mark so_far rest
 
--- how many bytes of the source a code takes
-abbrev pub length_taken : FilterKind → Rest → Code → ℕ
-length_taken kind rest (Gives bytes taken) = reach (passes kind) taken rest
-length_taken kind rest (Ends taken) = reach (passes kind) taken rest
-length_taken kind rest EndsWithSource = size rest
-length_taken kind rest Wrong = 0
+-- how many bytes a code takes, those passed over not counted, or all that the source has
+abbrev pub taken_by : Code → Option ℕ
+taken_by (Gives bytes taken) = Some taken
+taken_by (Ends taken) = Some taken
+taken_by EndsWithSource = None
+taken_by Wrong = Some 0
+
+-- how many bytes of the source these are
+abbrev pub length_taken : FilterKind → Rest → Option ℕ → ℕ
+length_taken kind rest (Some n) = reach (passes kind) n rest
+length_taken kind rest None = size rest
+
+-- how many are left to be taken behind one of its bytes
+abbrev pub left_behind : FilterKind → ℕ → Option ℕ → Option ℕ
+left_behind kind b (Some n) = Some (if passes kind b then n else n - 1)
+left_behind kind b None = None
+
+-- whether more bytes are to be taken
+abbrev pub takes_more : Option ℕ → Bool
+takes_more None = true
+takes_more (Some zero) = false
+takes_more (Some (suc n)) = true

@@ -37,14 +37,13 @@ Yields old (Byte b) new = old ≡ byte b new
 Yields old End new = (old ≡ ended) × (new ≡ ended)
 Yields old Bad new = (old ≡ broken) × (new ≡ broken)
 
--- whether so many bytes come that aren't passed over
-abbrev pub comes : (ℕ → Bool) → ℕ → Rest → Bool
-comes passed zero rest = true
-comes passed (suc n) (byte b rest) = if passed b then comes passed (suc n) rest else comes passed n rest
-comes passed (suc n) ended = false
-comes passed (suc n) broken = false
+-- whether a byte comes
+abbrev pub has_byte : Rest → Bool
+has_byte (byte b rest) = true
+has_byte ended = false
+has_byte broken = false
 
--- how many bytes these are, with those passed over in front of each
+-- how many bytes are so many that aren't passed over, with those passed over in front of each
 abbrev pub reach : (ℕ → Bool) → ℕ → Rest → ℕ
 reach passed zero rest = 0
 reach passed (suc n) (byte b rest) = 1 + (if passed b then reach passed (suc n) rest else reach passed n rest)

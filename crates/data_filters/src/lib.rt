@@ -5,6 +5,7 @@ mod ahead;
 mod code;
 mod digits;
 mod found;
+mod give;
 mod given;
 mod reading;
 

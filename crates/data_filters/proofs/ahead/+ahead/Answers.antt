@@ -29,7 +29,7 @@ pub group_code-returns-then-not-is_character-clause-found : goal.group_code-retu
 group_code-returns-then-not-is_character-clause-found t c =
     λ so_far. rw c.without_character-then-not-is_character.ensures
     (finds_without_character so_far c.characters.missing c.characters.value _ _ _ (Byte c.in-Byte.byte) c.characters-test.true c.characters.invariant.stands
-        (sym c.if-not-is_character.ensures, differs c.in-Byte.byte 126 c.if-byte-eq126.false) c.in-Byte.ensures.yields)
+    (sym c.if-not-is_character.ensures, differs c.in-Byte.byte 126 c.if-byte-eq126.false) c.in-Byte.ensures.yields)
 
 pub group_code-overflow_mul-value : goal.group_code-overflow_mul-value
 group_code-overflow_mul-value t c =
@@ -54,7 +54,7 @@ group_code-returns-clause-found t c =
     λ so_far.
     let none : c.characters.missing ≡ 0 = omega (arith, c.characters-test.false) in
     let stands = subst (λ m. GroupStands (rest c.args.text.now (source_of c.args.layers.now c.args.source) c.args.ahead.now) m c.characters.value
-        (rest c.args.text.now (source_of c.args.layers.now c.args.source) c.characters.ahead)) none c.characters.invariant.stands
+    (rest c.args.text.now (source_of c.args.layers.now c.args.source) c.characters.ahead)) none c.characters.invariant.stands
     in
     rw c.group_of.ensures (finds_group so_far c.characters.value _ _ _ stands refl)
 
@@ -89,15 +89,15 @@ pub next_code-returns-in-Some-clause-found : goal.next_code-returns-in-Some-clau
 next_code-returns-in-Some-clause-found t c =
     rw (c.in-SubFile.is, c.whole.ensures)
     (finds_part_end c.args.given c.in-SubFile.count c.in-Some.taken c.in-SubFile.mark (drop c.args.ahead.now.place c.args.text.now) _ _
-        (λ needs. text_rest c.args.text.now c.args.layers.now c.args.source c.args.ahead.now (c.requires.marks (rw c.in-SubFile.is needs)))
-        (rw c.as_slice.ensures at c.in-Some.ensures))
+    (λ needs. text_rest c.args.text.now c.args.layers.now c.args.source c.args.ahead.now (c.requires.marks (rw c.in-SubFile.is needs)))
+    (rw c.as_slice.ensures at c.in-Some.ensures))
 
 pub next_code-returns-in_default-clause-found : goal.next_code-returns-in_default-clause-found
 next_code-returns-in_default-clause-found t c =
     rw (c.in-SubFile.is, c.by_itself.ensures)
     (finds_part c.args.given c.in-SubFile.count c.in-SubFile.mark (drop c.args.ahead.now.place c.args.text.now) _ _ c.read.result
-        (λ needs. text_rest c.args.text.now c.args.layers.now c.args.source c.args.ahead.now (c.requires.marks (rw c.in-SubFile.is needs)))
-        (rw c.as_slice.ensures at c.in_default.ensures) c.read.ensures.yields)
+    (λ needs. text_rest c.args.text.now c.args.layers.now c.args.source c.args.ahead.now (c.requires.marks (rw c.in-SubFile.is needs)))
+    (rw c.as_slice.ensures at c.in_default.ensures) c.read.ensures.yields)
 
 pub next_code-returns-in-Hex-clause-found : goal.next_code-returns-in-Hex-clause-found
 next_code-returns-in-Hex-clause-found t c = rw c.in-Hex.is (c.hex_code.ensures.found c.args.given)
@@ -116,24 +116,24 @@ pub read-returns-in-Some-clause-yields : goal.read-returns-in-Some-clause-yields
 read-returns-in-Some-clause-yields t c =
     let up : c.args.source ≡ suc (c.args.source - 1) = omega (arith, c.if-source-eq0.false) in
     reads_pending c.args.text.now c.args.layers.now c.args.source (c.args.source - 1) c.in-Some.byte c.args.ahead.now c.pending_byte.new.self
-        c.requires.tower c.requires.stands up c.requires.room c.in-Some.ensures
+    c.requires.tower c.requires.stands up c.requires.room c.in-Some.ensures
 
 pub read-returns-in-Ended-clause-yields : goal.read-returns-in-Ended-clause-yields
 read-returns-in-Ended-clause-yields t c =
     let up : c.args.source ≡ suc (c.args.source - 1) = omega (arith, c.if-source-eq0.false) in
     reads_ended c.args.text.now c.args.layers.now c.args.source (c.args.source - 1) c.args.ahead.now c.pending_byte.new.self c.at-standing.result.now
-        c.requires.tower c.requires.stands up c.in_default.ensures c.at-standing.ensures c.in-Ended.is
+    c.requires.tower c.requires.stands up c.in_default.ensures c.at-standing.ensures c.in-Ended.is
 
 pub read-returns-in-Failed-clause-yields : goal.read-returns-in-Failed-clause-yields
 read-returns-in-Failed-clause-yields t c =
     let up : c.args.source ≡ suc (c.args.source - 1) = omega (arith, c.if-source-eq0.false) in
     reads_failed c.args.text.now c.args.layers.now c.args.source (c.args.source - 1) c.args.ahead.now c.pending_byte.new.self c.at-standing.result.now
-        c.requires.tower c.requires.stands up c.in_default.ensures c.at-standing.ensures c.in-Failed.is
+    c.requires.tower c.requires.stands up c.in_default.ensures c.at-standing.ensures c.in-Failed.is
 
 pub read-returns-in-Open-clause-yields : goal.read-returns-in-Open-clause-yields
 read-returns-in-Open-clause-yields t c =
     let up : c.args.source ≡ suc (c.args.source - 1) = omega (arith, c.if-source-eq0.false) in
     reads_code c.args.text.now c.args.layers.now c.args.source (c.args.source - 1) c.args.ahead.now c.pending_byte.new.self c.next_code-found.new.ahead c.begin.new.self
-        c.next_code-found.result c.begin.result c.at-standing.result.now c.index-layers-layer.result c.index-layers-layer-in-Open.result
-        c.requires.tower c.requires.stands up c.requires.room c.in_default.ensures c.at-standing.ensures c.in-Open.is
-        c.next_code-found.ensures.found c.next_code-found.ensures.same c.begin.ensures
+    c.next_code-found.result c.begin.result c.at-standing.result.now c.index-layers-layer.result c.index-layers-layer-in-Open.result
+    c.requires.tower c.requires.stands up c.requires.room c.in_default.ensures c.at-standing.ensures c.in-Open.is
+    c.next_code-found.ensures.found c.next_code-found.ensures.same c.begin.ensures
