@@ -7,7 +7,7 @@ ghost use Rattle.commit_desk.specs.declared.slot.Slot.TheVariants.{Vacant};
 
 use crate::event::{Claim, Event};
 use crate::slot::Slot;
-use ps_shapes::NoMemory;
+use copy_lists::NoMemory;
 use std::alloc::Global;
 
 /// The pages of a job, numbered from 1: which are claimed, whose pieces are finished, which of these were taken, and how

@@ -6,6 +6,6 @@ mod standing;
 mod tower;
 
 pub use code::CodeBytes;
-pub use ps_objects::{NoMemory, Sequence, Text};
+pub use copy_lists::{NoMemory, Sequence, Text};
 pub use standing::{FilterState, Standing, Standings};
 pub use tower::{FilterKind, FilterLayer};

@@ -7,5 +7,5 @@ mod reader;
 mod tests;
 
 pub use law::jobs_law;
-pub use ps_objects::{NoMemory, Text};
+pub use copy_lists::{NoMemory, Text};
 pub use reader::{CONTROL_D, Fed, Front, JOB_LIMIT, JobReader};

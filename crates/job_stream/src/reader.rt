@@ -5,7 +5,7 @@ ghost use Rattle.memchr.specs.Find.{is_byte};
 ghost use Rattle.job_stream.specs.Jobs.{is_white, is_blank, is_control_d};
 
 use memchr::memchr;
-use ps_objects::{NoMemory, Text};
+use copy_lists::{NoMemory, Text};
 use std::alloc::Global;
 use std::mem;
 

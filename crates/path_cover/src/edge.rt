@@ -4,7 +4,8 @@ ghost use Rattle.ps_shapes.specs.Near.{IsNear};
 ghost use Rattle.path_cover.specs.Cover.{centre, is_left, sides_after, counts, counted};
 ghost use Rattle.path_cover.specs.Rows.{HasRows};
 
-use ps_shapes::{NoMemory, Point};
+use copy_lists::NoMemory;
+use ps_shapes::Point;
 
 /// An edge from its upper to its lower point, with the rows whose centres it passes.
 #[derive(Clone, Copy)]

@@ -5,7 +5,8 @@ ghost use Rattle.path_cover.specs.Marks.{marks, crosses};
 
 use crate::crossing::Crossing;
 use crate::edge::{Edge, row_at};
-use ps_shapes::{NoMemory, Point};
+use copy_lists::NoMemory;
+use ps_shapes::Point;
 
 /// Adds the edges of a closed polygon.
 pub(crate) fn gather(edges: &mut Vec<Edge>, points: &[Point], height: u32) -> Result<(), NoMemory>

@@ -15,7 +15,8 @@ ghost use Rattle.path_cover.specs.Scattered.{IsScattered};
 
 use gather::gather;
 use merge::merge;
-use ps_shapes::{NoMemory, Polygon, Polygons, Rule, Span, Spans};
+use copy_lists::NoMemory;
+use ps_shapes::{Polygon, Polygons, Rule, Span, Spans};
 use scan::scan;
 use std::alloc::Global;
 

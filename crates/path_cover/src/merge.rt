@@ -4,7 +4,8 @@ ghost use Rattle.std.specs.List.Sorted.{IsNonDecreasingBy};
 ghost use Rattle.ps_shapes.specs.Span.{IsOrdered, IsOnPaper, holds, is_in};
 ghost use Rattle.path_cover.specs.Scattered.{IsScattered, place_of, joined_of};
 
-use ps_shapes::{NoMemory, Span, Spans};
+use copy_lists::NoMemory;
+use ps_shapes::{Span, Spans};
 use std::alloc::Global;
 
 /// The spans that hold the same pixels, in order.

@@ -11,7 +11,8 @@ use crate::crossing::Crossing;
 use crate::edge::Edge;
 use crate::gather::crossings;
 use crate::sweep::sweep;
-use ps_shapes::{NoMemory, Span};
+use copy_lists::NoMemory;
+use ps_shapes::Span;
 use std::alloc::Global;
 
 /// Adds the spans that the edges bound.

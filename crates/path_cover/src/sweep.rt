@@ -7,7 +7,8 @@ ghost use Rattle.path_cover.specs.Marks.{crosses, is_going};
 ghost use Rattle.path_cover.specs.Scattered.{IsScattered};
 
 use crate::crossing::Crossing;
-use ps_shapes::{NoMemory, Span};
+use copy_lists::NoMemory;
+use ps_shapes::Span;
 
 /// Adds the spans of a row between its crossings.
 pub(crate) fn sweep(

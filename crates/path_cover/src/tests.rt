@@ -1,5 +1,6 @@
 use crate::cover;
-use ps_shapes::{NoMemory, Point, Polygon, Polygons, Rule, Span};
+use copy_lists::NoMemory;
+use ps_shapes::{Point, Polygon, Polygons, Rule, Span};
 use std::alloc::Global;
 use std::process::Abort;
 use std::test::Fail;

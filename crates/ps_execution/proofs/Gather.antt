@@ -5,9 +5,11 @@ use Rattle.std.specs.List.{AllByRecursion}
 use Rattle.std.specs.Ordering.{nat_cmp, is_gt, ordering_then}
 use Rattle.std.proofs.Math.Nat.{mod-lt}
 use Rattle.std.proofs.lemmas.List.{length-reverse, reverse-append}
+use Rattle.ps_objects.specs.Object.{cell_named}
+use Rattle.ps_objects.specs.Object.{whole_of}
 use Rattle.ps_objects.specs.declared.cell.Cell.{Cell}
 use Rattle.ps_objects.specs.declared.cell.SaveName.{SaveName}
-use Rattle.ps_objects.specs.declared.error_name.ErrorName.TheVariants.{InvalidAccess, LimitCheck, SyntaxError, Undefined, VmError}
+use Rattle.ps_names.specs.declared.error_name.ErrorName.TheVariants.{InvalidAccess, LimitCheck, SyntaxError, Undefined, VmError}
 use Rattle.ps_objects.specs.declared.key.Key.{Key}
 use Rattle.ps_objects.specs.declared.key.Key.TheVariants as key
 use Rattle.ps_objects.specs.declared.object.Object.{Object}
@@ -23,7 +25,7 @@ use Rattle.ps_memory.specs.Ownership.{same_cell}
 use Rattle.ps_memory.proofs.Order.{cell_is}
 use Rattle.ps_memory.specs.Tree.{Change, puts, makes, opens, Tree, ends, changes}
 use Rattle.ps_meaning.specs.Answer.{names_taken}
-use Rattle.ps_meaning.specs.Fits.{lies_within, cell_named, IsDict, FitsObject, FitsSpot, SharedSpot, value_is_shared, is_system_dict, IsLoc}
+use Rattle.ps_meaning.specs.Fits.{lies_within, IsDict, FitsObject, FitsSpot, SharedSpot, value_is_shared, is_system_dict, IsLoc}
 use Rattle.ps_meaning.specs.Sound.{World, with_cell, made, resized, saved_at, IsNew, IsNewSave, IsAnswer, Lawful}
 use Rattle.ps_meaning.specs.Budgets.{unit_budget}
 use Rattle.ps_execution.specs.Execution.{Read, reads}
@@ -396,7 +398,7 @@ module _ (text : List ℕ) (s : State) where
       names = G.names;
     }
 
-    string_fits : (g : Gathering) (bs : List ℕ) (V : World) → length bs ≤ 65535 → V.shapes (next_cell s g) ≡ Some (shape.Str (length bs)) → FitsObject V.shapes (literal (kind.Str (next_cell s g) 0 (length bs)))
+    string_fits : (g : Gathering) (bs : List ℕ) (V : World) → length bs ≤ 65535 → V.shapes (next_cell s g) ≡ Some (shape.Str (length bs)) → FitsObject V.shapes (literal (kind.Str (whole_of (next_cell s g) (length bs))))
     string_fits g bs V n e = (shape.Str (length bs), e, whole_lies (length bs) (length bs) (omega arith) n)
 
     string_lawful : (r : Onward) → IsOnward r → (bs : List ℕ) → length bs ≤ 65535 → (place : ℕ) (g : Gathering) (V : World) → place ≤ size → Going g V → IsPaid 0 g → Lawful (reads (gather_string r s bs place g) s) W Q
@@ -410,14 +412,14 @@ module _ (text : List ℕ) (s : State) where
             (taken_going g V G sh (stores_bytes c 0 bs) (bytes_lawful c (length bs) 0 bs (made c sh V) (made_here c sh V.shapes) (omega arith)) (bytes_world c 0 bs (made c sh V)) (bytes_unnamed c 0 bs)) h
 
         go : (t : Bool) → nat_le (g.units + string_units (length bs)) (unit_budget s.kind) ≡ t
-            → Lawful (reads (cond t (complete r s (literal (kind.Str (next_cell s g) 0 (length bs))) place (with_string (next_cell s g) bs (string_units (length bs)) g)) (scanned (bad VmError) place g)) s) W Q
+            → Lawful (reads (cond t (complete r s (literal (kind.Str (whole_of (next_cell s g) (length bs)))) place (with_string (next_cell s g) bs (string_units (length bs)) g)) (scanned (bad VmError) place g)) s) W Q
         go true e =
             let U = made (next_cell s g) (shape.Str (length bs)) V in
             let H = made_going (within (g.units + string_units (length bs)) (unit_budget s.kind) e) in
-            complete_lawful r o (literal (kind.Str (next_cell s g) 0 (length bs))) place (with_string (next_cell s g) bs (string_units (length bs)) g) U g.open_braces b H H.items
+            complete_lawful r o (literal (kind.Str (whole_of (next_cell s g) (length bs)))) place (with_string (next_cell s g) bs (string_units (length bs)) g) U g.open_braces b H H.items
             (string_fits g bs U l (made_here (next_cell s g) (shape.Str (length bs)) V.shapes)) (share g.open_braces) (omega (arith, p))
           where
-            share : (o : List (List Object)) → ShareIf o (literal (kind.Str (next_cell s g) 0 (length bs)))
+            share : (o : List (List Object)) → ShareIf o (literal (kind.Str (whole_of (next_cell s g) (length bs))))
             share [] = tt
             share (items ∷ outer) = mode_names s.regs.global (next_cell s g) refl
         go false e = finished (bad VmError) place g V G b tt (more 1 g p)

@@ -1,6 +1,8 @@
 -- What fits goes on fitting where more stands.
 use Rattle.std.proofs.Common.{◌≡◌, ◌≢◌, Bool, true, false, cond, List, [], ◌∷◌, Option, Some, None, refl, sym, ap, ◌∙◌}
 use Rattle.std.specs.List.{AllByRecursion}
+use Rattle.ps_objects.specs.Key.{cell_of_key}
+use Rattle.ps_objects.specs.Object.{cell_named}
 use Rattle.ps_objects.specs.declared.cell.Cell.{Cell}
 use Rattle.ps_objects.specs.declared.cell.SaveName.{SaveName}
 use Rattle.ps_objects.specs.declared.object.Object.{Object}
@@ -17,7 +19,7 @@ use Rattle.ps_kinds.specs.declared.show.ShowForm.TheVariants as form
 use Rattle.ps_memory.specs.Memory.{newer}
 use Rattle.ps_memory.specs.Ownership.{same_cell}
 use Rattle.ps_memory.proofs.Order.{cell_is, cell_itself}
-use Rattle.ps_meaning.specs.Fits.{Shapes, cell_named, takes, cell_of_key, key_takes, FitsCell, FitsObject, IsDict}
+use Rattle.ps_meaning.specs.Fits.{Shapes, takes, key_takes, FitsCell, FitsObject, IsDict}
 use Rattle.ps_meaning.specs.Registers.{FitsState, FitsLayers, SoundMarks, SoundRegisters}
 use Rattle.ps_meaning.specs.Sound.{World, named_at_start, start_cells, StartStands, without_newer, with_cell}
 use Rattle.ps_meaning.proofs.Fits.{apart}

@@ -1,12 +1,14 @@
 -- What executing an object does is lawful, where what the table does is.
 use Rattle.std.proofs.Common.{◌≡◌, ℕ, zero, suc, ◌≤◌, ◌+◌, ◌==◌, Bool, true, false, not, cond, ◌&&◌, List, [], ◌∷◌, nat_lt, Some, Result, Ok, Err, sym, subst, arith, true≢false}
 use Rattle.std.specs.List.{AllByRecursion}
+use Rattle.ps_objects.specs.Object.{cell_named}
+use Rattle.ps_objects.specs.declared.objects.Interval.{Interval}
 use Rattle.ps_objects.specs.Access.{run_right}
-use Rattle.ps_objects.specs.Op.{default_entry}
+use Rattle.ps_names.specs.Op.{default_entry}
 use Rattle.ps_objects.specs.Operands.{room_for}
 use Rattle.ps_objects.specs.declared.cell.Cell.{Cell}
-use Rattle.ps_objects.specs.declared.error_name.ErrorName.{ErrorName}
-use Rattle.ps_objects.specs.declared.error_name.ErrorName.TheVariants.{Undefined}
+use Rattle.ps_names.specs.declared.error_name.ErrorName.{ErrorName}
+use Rattle.ps_names.specs.declared.error_name.ErrorName.TheVariants.{Undefined}
 use Rattle.ps_objects.specs.declared.key.Key.{Key}
 use Rattle.ps_objects.specs.declared.key.Key.TheVariants as key
 use Rattle.ps_objects.specs.declared.object.Object.{Object}
@@ -25,7 +27,7 @@ use Rattle.ps_kinds.specs.declared.frame.Frame.TheVariants as frame
 use Rattle.ps_kinds.specs.declared.state.State.{State}
 use Rattle.ps_memory.specs.Tree.{Application, done, fail}
 use Rattle.ps_meaning.specs.Answer.{read, Effect, fixed}
-use Rattle.ps_meaning.specs.Fits.{Shapes, lies_within, cell_named, takes, FitsCell, FitsObject, IsDict}
+use Rattle.ps_meaning.specs.Fits.{Shapes, lies_within, takes, FitsCell, FitsObject, IsDict}
 use Rattle.ps_meaning.specs.Sound.{World, IsAnswer, Lawful}
 use Rattle.ps_meaning.specs.Start.{operator}
 use Rattle.ps_execution.specs.Execution.{Came, applies}
@@ -39,19 +41,19 @@ is_within : (start len n : ℕ) → lies_within start len n ≡ true → start +
 is_within start len n h = grind arith
 
 -- the bytes, or the items, that an object names stand
-pub string_stands : (K : Shapes) (c : Cell) (start len : ℕ) (f : FitsCell K (Some c) (takes (kind.Str c start len))) → (n : ℕ) × (K c ≡ Some (shape.Str n)) × (start + len ≤ n)
-string_stands K c start len f = go f.0 f.1 f.2
+pub string_stands : (K : Shapes) (part : Interval) (f : FitsCell K (Some part.cell) (takes (kind.Str part))) → (n : ℕ) × (K part.cell ≡ Some (shape.Str n)) × (part.start + part.len ≤ n)
+string_stands K part f = go f.0 f.1 f.2
   where
-    go : (sh : Shape) → K c ≡ Some sh → takes (kind.Str c start len) sh ≡ true → (n : ℕ) × (K c ≡ Some (shape.Str n)) × (start + len ≤ n)
-    go (shape.Str n) e t = (n, e, is_within start len n t)
+    go : (sh : Shape) → K part.cell ≡ Some sh → takes (kind.Str part) sh ≡ true → (n : ℕ) × (K part.cell ≡ Some (shape.Str n)) × (part.start + part.len ≤ n)
+    go (shape.Str n) e t = (n, e, is_within part.start part.len n t)
     go (shape.Array n) e t = absurd (true≢false (sym t))
     go (shape.Dict n) e t = absurd (true≢false (sym t))
 
-pub array_stands : (K : Shapes) (c : Cell) (start len : ℕ) (packed : Bool) (f : FitsCell K (Some c) (takes (kind.Array c start len packed))) → (n : ℕ) × (K c ≡ Some (shape.Array n)) × (start + len ≤ n)
-array_stands K c start len packed f = go f.0 f.1 f.2
+pub array_stands : (K : Shapes) (part : Interval) (packed : Bool) (f : FitsCell K (Some part.cell) (takes (kind.Array part packed))) → (n : ℕ) × (K part.cell ≡ Some (shape.Array n)) × (part.start + part.len ≤ n)
+array_stands K part packed f = go f.0 f.1 f.2
   where
-    go : (sh : Shape) → K c ≡ Some sh → takes (kind.Array c start len packed) sh ≡ true → (n : ℕ) × (K c ≡ Some (shape.Array n)) × (start + len ≤ n)
-    go (shape.Array n) e t = (n, e, is_within start len n t)
+    go : (sh : Shape) → K part.cell ≡ Some sh → takes (kind.Array part packed) sh ≡ true → (n : ℕ) × (K part.cell ≡ Some (shape.Array n)) × (part.start + part.len ≤ n)
+    go (shape.Array n) e t = (n, e, is_within part.start part.len n t)
     go (shape.Str n) e t = absurd (true≢false (sym t))
     go (shape.Dict n) e t = absurd (true≢false (sym t))
 
@@ -116,21 +118,21 @@ module _ (text : List ℕ) (W : World) (s : State) (f : Fits text W s) where
   bytes_lawful c size e i zero k h l = l []
   bytes_lawful c size e i (suc n) k h l = ((size, e, omega (arith, h)), λ v _. bytes_lawful c size e (suc i) n (λ bs. k (byte_in v ∷ bs)) (omega (arith, h)) (λ bs. l (byte_in v ∷ bs)))
 
-  string_lawful : (x : Object) (c : Cell) (start len : ℕ) → FitsObject W.shapes x → FitsCell W.shapes (Some c) (takes (kind.Str c start len)) → Lawful (applies s.frames (runs_string x c start len s) s) W Q
-  string_lawful x c start len h k = go (run_right x.access)
+  string_lawful : (x : Object) (part : Interval) → FitsObject W.shapes x → FitsCell W.shapes (Some part.cell) (takes (kind.Str part)) → Lawful (applies s.frames (runs_string x part s) s) W Q
+  string_lawful x part h k = go (run_right x.access)
     where
       begun : List ℕ → Application Effect
       begun bs = done [] (record { state = s; frames = []; act = act.Body (frame.Text x bs 0) })
 
-      room : (r : Result (Unit {0}) ErrorName) → Lawful (applies s.frames (read r (λ _. looks_at_bytes c start len (λ bs. done [] (record { state = s; frames = []; act = act.Body (frame.Text x bs 0) })))) s) W Q
+      room : (r : Result (Unit {0}) ErrorName) → Lawful (applies s.frames (read r (λ _. looks_at_bytes part.cell part.start part.len (λ bs. done [] (record { state = s; frames = []; act = act.Body (frame.Text x bs 0) })))) s) W Q
       room (Ok u) =
-          let (size, e, b) = string_stands W.shapes c start len k in
-          bytes_lawful c size e start len (λ bs. done [] (record { state = s; frames = []; act = act.Body (frame.Text x bs 0) })) b
+          let (size, e, b) = string_stands W.shapes part k in
+          bytes_lawful part.cell size e part.start part.len (λ bs. done [] (record { state = s; frames = []; act = act.Body (frame.Text x bs 0) })) b
           (λ bs. went_fits (act.Body (frame.Text x bs 0)) s.regs.operands f.state.registers.operands (h, omega arith))
       room (Err e) = failed_fits e
 
       go : (r : Result (Unit {0}) ErrorName)
-          → Lawful (applies s.frames (read r (λ _. read (frame_room s.frames) (λ _. looks_at_bytes c start len (λ bs. done [] (record { state = s; frames = []; act = act.Body (frame.Text x bs 0) }))))) s) W Q
+          → Lawful (applies s.frames (read r (λ _. read (frame_room s.frames) (λ _. looks_at_bytes part.cell part.start part.len (λ bs. done [] (record { state = s; frames = []; act = act.Body (frame.Text x bs 0) }))))) s) W Q
       go (Ok u) = room (frame_room s.frames)
       go (Err e) = failed_fits e
 
@@ -153,8 +155,8 @@ module _ (P : Program) (T : LawfulTable P.table) (W : World) (s : State) (f : Fi
   R = FitsCame P.text s 4
 
   kind_lawful : (x : Object) (k : Kind) → FitsObject W.shapes x → FitsCell W.shapes (cell_named k) (takes k) → Lawful (applies s.frames (runs_kind P x k s) s) W R
-  kind_lawful x (kind.Array c start len packed) h g = procedure_lawful P.text W s f x len h
-  kind_lawful x (kind.Str c start len) h g = string_lawful P.text W s f x c start len h g
+  kind_lawful x (kind.Array part packed) h g = procedure_lawful P.text W s f x part.len h
+  kind_lawful x (kind.Str part) h g = string_lawful P.text W s f x part h g
   kind_lawful x kind.Null h g = goes_on_lawful P.text W s f
   kind_lawful x _ h g = pushes_lawful P.text W s f x h
 
@@ -170,8 +172,8 @@ module _ (P : Program) (T : LawfulTable P.table) (W : World) (s : State) (f : Fi
   value_lawful x kind.Null h g = either x.exec x kind.Null h g
   value_lawful x kind.Mark h g = either x.exec x kind.Mark h g
   value_lawful x (kind.Name n) h g = either x.exec x (kind.Name n) h g
-  value_lawful x (kind.Str c start len) h g = either x.exec x (kind.Str c start len) h g
-  value_lawful x (kind.Array c start len packed) h g = either x.exec x (kind.Array c start len packed) h g
+  value_lawful x (kind.Str part) h g = either x.exec x (kind.Str part) h g
+  value_lawful x (kind.Array part packed) h g = either x.exec x (kind.Array part packed) h g
   value_lawful x (kind.Dict c) h g = either x.exec x (kind.Dict c) h g
   value_lawful x (kind.File n) h g = either x.exec x (kind.File n) h g
   value_lawful x (kind.Filter n m) h g = either x.exec x (kind.Filter n m) h g
@@ -184,7 +186,7 @@ module _ (P : Program) (T : LawfulTable P.table) (W : World) (s : State) (f : Fi
   met_lawful : (x : Object) (k : Kind) → FitsObject W.shapes x → FitsCell W.shapes (cell_named k) (takes k) → Lawful (applies s.frames (met_kind P x k s) s) W R
   met_lawful x (kind.Name n) h g = searches_lawful P.text W s f s.regs.dicts (key.Name n) (λ y. runs_value P y s) (fail Undefined) f.state.registers.dicts runs_lawful (failed_fits P.text W s f Undefined)
   met_lawful x (kind.Operator n) h g = T.run n P.text s W f
-  met_lawful x (kind.Str c start len) h g = string_lawful P.text W s f x c start len h g
+  met_lawful x (kind.Str part) h g = string_lawful P.text W s f x part h g
   met_lawful x kind.Null h g = goes_on_lawful P.text W s f
   met_lawful x _ h g = pushes_lawful P.text W s f x h
 

@@ -1,8 +1,9 @@
 -- A step of the machine is lawful, where the table is.
 use Rattle.std.proofs.Common.{◌≡◌, ℕ, zero, suc, ◌≤◌, ◌+◌, ◌-◌, ◌*◌, Bool, true, false, cond, List, [], ◌∷◌, ◌++◌, drop, length, nat_lt, ◌≢◌, Option, Some, None, refl, sym, ap, ◌∙◌, subst, arith}
 use Rattle.std.specs.List.{AllByRecursion}
+use Rattle.ps_objects.specs.Object.{cell_named}
 use Rattle.ps_objects.specs.declared.cell.Cell.{Cell}
-use Rattle.ps_objects.specs.declared.error_name.ErrorName.{ErrorName}
+use Rattle.ps_names.specs.declared.error_name.ErrorName.{ErrorName}
 use Rattle.ps_objects.specs.declared.object.Object.{Object}
 use Rattle.ps_objects.specs.declared.object.Kind.{Kind}
 use Rattle.ps_objects.specs.declared.object.Kind.TheVariants as kind
@@ -12,7 +13,7 @@ use Rattle.ps_objects.specs.declared.place.Shape.TheVariants as shape
 use Rattle.ps_objects.specs.declared.place.Value.{Value}
 use Rattle.ps_objects.specs.declared.place.Value.TheVariants as value
 use Rattle.ps_objects.specs.declared.key.Key.TheVariants as key
-use Rattle.ps_objects.specs.ErrorName.{bytes_of}
+use Rattle.ps_names.specs.ErrorName.{bytes_of}
 use Rattle.ps_kinds.specs.declared.act.Act.{Act}
 use Rattle.ps_kinds.specs.declared.act.Act.TheVariants as act
 use Rattle.ps_kinds.specs.declared.frame.Frame.{Frame}
@@ -23,7 +24,7 @@ use Rattle.ps_kinds.specs.declared.state.State.{State}
 use Rattle.ps_memory.specs.Memory.{blank, picture, store, tell}
 use Rattle.ps_memory.specs.Tree.{Application, ends, looks, acts, ◌>>=◌}
 use Rattle.ps_meaning.specs.Answer.{Effect}
-use Rattle.ps_meaning.specs.Fits.{Shapes, cell_named, takes, FitsCell, FitsObject}
+use Rattle.ps_meaning.specs.Fits.{Shapes, takes, FitsCell, FitsObject}
 use Rattle.ps_meaning.proofs.Fits.{apart}
 use Rattle.ps_meaning.specs.Registers.{SoundRegisters}
 use Rattle.ps_meaning.specs.Sound.{Size, size_of, World, IsAnswer, Lawful, StartStands}
@@ -304,13 +305,13 @@ module _ (P : Program) (T : LawfulTable P.table) where
       ((size, e, omega (arith, b)), λ v a. execute_lawful (item_in v) (under (stands (frame.Proc body (suc i))) s) W (whole_on P.text W s (frame.Proc body (suc i) ∷ s.frames) f (h, f.state.frames)) (item_fits W c (start + i) v a) (omega (arith, p)))
 
   procedure_lawful : (body : Object) (k : Kind) (i : ℕ) (s : State) (W : World) → Fits P.text W s → FitsObject W.shapes body → FitsCell W.shapes (cell_named k) (takes k) → IsPaid 0 s → Lawful (move_procedure P body k i s) W M
-  procedure_lawful body (kind.Array c start len packed) i s W f h k p =
-      let (size, e, b) = array_stands W.shapes c start len packed k in
-      within (len - i) refl size e b
+  procedure_lawful body (kind.Array part packed) i s W f h k p =
+      let (size, e, b) = array_stands W.shapes part packed k in
+      within (part.len - i) refl size e b
     where
-      within : (n : ℕ) → len - i ≡ n → (size : ℕ) → W.shapes c ≡ Some (shape.Array size) → start + len ≤ size → Lawful (move_item P body c start i n s) W M
+      within : (n : ℕ) → part.len - i ≡ n → (size : ℕ) → W.shapes part.cell ≡ Some (shape.Array size) → part.start + part.len ≤ size → Lawful (move_item P body part.cell part.start i n s) W M
       within zero e size j b = (f, p)
-      within (suc n) e size j b = item_lawful body c start i (suc n) size s W f h p j (omega (arith, e, b))
+      within (suc n) e size j b = item_lawful body part.cell part.start i (suc n) size s W f h p j (omega (arith, e, b))
   procedure_lawful body _ i s W f h k p = execute_lawful body s W f h (omega (arith, p))
 
   -- ---- steps

@@ -1,12 +1,14 @@
 -- What is scanned from a text: one object, with the cells that it takes.
 use Rattle.std.specs.Prelude.{ℕ, zero, suc, ◌+◌, Bool, true, false, not, cond, ◌&&◌, nat_lt, nat_le, ◌/◌, ◌%◌, List, [], ◌∷◌, ◌++◌, reverse, length, Option, Some, None}
+use Rattle.ps_objects.specs.Object.{cell_named}
+use Rattle.ps_objects.specs.Object.{whole_of}
 use Rattle.ps_objects.specs.declared.access.Access.{Access}
 use Rattle.ps_objects.specs.declared.access.Access.TheVariants.{Unlimited, ReadOnly}
 use Rattle.ps_objects.specs.declared.cell.Cell.{Cell}
 use Rattle.ps_objects.specs.declared.cell.Space.{Space}
 use Rattle.ps_objects.specs.declared.cell.Space.TheVariants.{Local, Global}
-use Rattle.ps_objects.specs.declared.error_name.ErrorName.{ErrorName}
-use Rattle.ps_objects.specs.declared.error_name.ErrorName.TheVariants.{InvalidAccess, LimitCheck, SyntaxError, Undefined, VmError}
+use Rattle.ps_names.specs.declared.error_name.ErrorName.{ErrorName}
+use Rattle.ps_names.specs.declared.error_name.ErrorName.TheVariants.{InvalidAccess, LimitCheck, SyntaxError, Undefined, VmError}
 use Rattle.ps_objects.specs.declared.key.Key.TheVariants as key
 use Rattle.ps_objects.specs.declared.object.Object.{Object}
 use Rattle.ps_objects.specs.declared.object.Kind.{Kind}
@@ -22,7 +24,6 @@ use Rattle.ps_scan.specs.declared.tokens.Token.TheVariants as token
 use Rattle.ps_kinds.specs.declared.state.State.{State}
 use Rattle.ps_memory.specs.Memory.{is_global}
 use Rattle.ps_memory.specs.Tree.{Change, puts, makes, Application, done}
-use Rattle.ps_meaning.specs.Fits.{cell_named}
 use Rattle.ps_meaning.specs.Start.{literal}
 use Rattle.ps_meaning.specs.Budgets.{unit_budget}
 use Rattle.ps_execution.specs.Objects.{searches}
@@ -82,7 +83,7 @@ body_access true = ReadOnly
 body_access false = Unlimited
 
 abbrev pub body_object : Cell → ℕ → Bool → Object
-body_object c n packed = record { kind = kind.Array c 0 n packed; exec = true; access = body_access packed }
+body_object c n packed = record { kind = kind.Array (whole_of c n) packed; exec = true; access = body_access packed }
 
 -- eight bytes of a string, begun, are a unit
 abbrev pub string_units : ℕ → ℕ
@@ -118,7 +119,7 @@ complete_value r s x place g = complete_value_in r s x place g g.open_braces
 
 abbrev pub gather_string : Onward → State → List ℕ → ℕ → Gathering → Application Scanned
 gather_string r s bs place g = cond (nat_le (g.units + string_units (length bs)) (unit_budget s.kind))
-    (complete r s (literal (kind.Str (next_cell s g) 0 (length bs))) place (with_string (next_cell s g) bs (string_units (length bs)) g))
+    (complete r s (literal (kind.Str (whole_of (next_cell s g) (length bs)))) place (with_string (next_cell s g) bs (string_units (length bs)) g))
     (scanned (bad VmError) place g)
 
 abbrev pub open_brace : Onward → ℕ → Gathering → Application Scanned

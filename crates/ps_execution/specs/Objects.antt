@@ -1,12 +1,13 @@
 -- What executing an object does.
 use Rattle.std.specs.Prelude.{ℕ, zero, suc, Bool, true, false, not, cond, ◌&&◌, ◌==◌, nat_lt, List, [], ◌∷◌, drop, length}
+use Rattle.ps_objects.specs.declared.objects.Interval.{Interval}
 use Rattle.ps_objects.specs.Access.{run_right}
-use Rattle.ps_objects.specs.ErrorName.{bytes_of}
-use Rattle.ps_objects.specs.Op.{default_entry}
+use Rattle.ps_names.specs.ErrorName.{bytes_of}
+use Rattle.ps_names.specs.Op.{default_entry}
 use Rattle.ps_objects.specs.Operands.{room_for}
 use Rattle.ps_objects.specs.declared.cell.Cell.{Cell}
-use Rattle.ps_objects.specs.declared.error_name.ErrorName.{ErrorName}
-use Rattle.ps_objects.specs.declared.error_name.ErrorName.TheVariants.{Undefined}
+use Rattle.ps_names.specs.declared.error_name.ErrorName.{ErrorName}
+use Rattle.ps_names.specs.declared.error_name.ErrorName.TheVariants.{Undefined}
 use Rattle.ps_objects.specs.declared.key.Key.{Key}
 use Rattle.ps_objects.specs.declared.key.Key.TheVariants as key
 use Rattle.ps_objects.specs.declared.object.Object.{Object}
@@ -60,15 +61,15 @@ abbrev pub runs_procedure : Object → ℕ → State → Application Effect
 runs_procedure x len s = read (run_right x.access) (λ _. cond (len == 0) (goes_on s) (begins (frame.Proc x 0) s))
 
 -- a string is looked at whole as its frame begins
-abbrev pub runs_string : Object → Cell → ℕ → ℕ → State → Application Effect
-runs_string x c start len s =
+abbrev pub runs_string : Object → Interval → State → Application Effect
+runs_string x part s =
     read (run_right x.access) (λ _. read (frame_room s.frames) (λ _.
-    looks_at_bytes c start len (λ bs. done [] (record { state = s; frames = []; act = act.Body (frame.Text x bs 0) }))))
+    looks_at_bytes part.cell part.start part.len (λ bs. done [] (record { state = s; frames = []; act = act.Body (frame.Text x bs 0) }))))
 
 -- what an operator as `exec` does with its operand: a name, an operator and the like is the one item of a frame of its own
 abbrev pub begins_kind : Object → Kind → State → Application Effect
-begins_kind x (kind.Array c start len packed) s = runs_procedure x len s
-begins_kind x (kind.Str c start len) s = runs_string x c start len s
+begins_kind x (kind.Array part packed) s = runs_procedure x part.len s
+begins_kind x (kind.Str part) s = runs_string x part s
 begins_kind x _ s = begins (frame.Proc x 0) s
 
 abbrev pub begins_object : Object → State → Application Effect
@@ -78,8 +79,8 @@ begins_object x s = cond x.exec (begins_kind x x.kind s) (pushes x s)
 
 -- an executable object to which a name led
 abbrev pub runs_kind : Program → Object → Kind → State → Application Effect
-runs_kind P x (kind.Array c start len packed) s = runs_procedure x len s
-runs_kind P x (kind.Str c start len) s = runs_string x c start len s
+runs_kind P x (kind.Array part packed) s = runs_procedure x part.len s
+runs_kind P x (kind.Str part) s = runs_string x part s
 runs_kind P x kind.Null s = goes_on s
 runs_kind P x _ s = pushes x s
 
@@ -104,7 +105,7 @@ searches (d ∷ ds) k found missing = look (loc.Entry d k) (λ v. found_in v fou
 abbrev pub met_kind : Program → Object → Kind → State → Application Effect
 met_kind P x (kind.Name n) s = searches s.regs.dicts (key.Name n) (λ y. runs_value P y s) (fail Undefined)
 met_kind P x (kind.Operator n) s = P.table.run n P.text s
-met_kind P x (kind.Str c start len) s = runs_string x c start len s
+met_kind P x (kind.Str part) s = runs_string x part s
 met_kind P x kind.Null s = goes_on s
 met_kind P x _ s = pushes x s
 
@@ -121,8 +122,8 @@ abbrev pub error_entry : ErrorName → Loc
 error_entry e = loc.Entry error_dict (key.Name (bytes_of e))
 
 abbrev pub is_body_kind : Kind → Bool
-is_body_kind (kind.Array c start len packed) = true
-is_body_kind (kind.Str c start len) = true
+is_body_kind (kind.Array part packed) = true
+is_body_kind (kind.Str part) = true
 is_body_kind _ = false
 
 -- a procedure or a string that would have no room for its frame, empty or not, gives way to the default entry

@@ -21,4 +21,4 @@ pub use laws::{
 pub use matrices::{apply, apply_delta, mat_invert, mat_mul};
 pub use ps_shapes::{Matrix, Real};
 pub use roots::sqrt;
-pub use rounding::Undefined;
+pub use rounding::{Undefined, real_of};

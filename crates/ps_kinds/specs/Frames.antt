@@ -1,7 +1,7 @@
 -- The limit of the execution stack.
 use Rattle.std.specs.Prelude.{List, length, nat_lt, if◌then◌else◌, Result, Ok, Err}
-use Rattle.ps_objects.specs.declared.error_name.ErrorName.{ErrorName}
-use Rattle.ps_objects.specs.declared.error_name.ErrorName.TheVariants.{ExecStackOverflow}
+use Rattle.ps_names.specs.declared.error_name.ErrorName.{ErrorName}
+use Rattle.ps_names.specs.declared.error_name.ErrorName.TheVariants.{ExecStackOverflow}
 use Rattle.ps_kinds.specs.declared.frame.Frame.{Frame}
 
 -- fewer than 1000 frames

@@ -2,7 +2,6 @@
 #![tactic(auto)]
 
 mod act;
-mod boxed;
 mod frame;
 mod graphics;
 mod ranges;
@@ -13,18 +12,17 @@ mod state;
 mod tests;
 
 pub use act::Act;
-pub use boxed::Boxed;
+pub use copy_lists::{Boxed, Duplicate, NoMemory, Sequence, Stack, Text};
 pub use frame::{FRAME_LIMIT, Frame, Frames, ImageRun, Pair, PathWalk, Samples, room_for_frame};
 pub use graphics::{Colour, GStack, GState, Layer};
 pub use ps_objects::{
-    Access, Cell, DICT_STACK_LIMIT, DictStack, Duplicate, ErrorName, FIRST_DEFAULT_ENTRY, FileName,
-    Interval, Key, KeyForm, Keys, Kind, Loc, NAME_LIMIT, Name, Number, OPERAND_LIMIT,
-    OPERATOR_COUNT, Object, Objects, Op, Refusal, SaveName, SectionKind, Sequence, Settings, Shape,
-    Space, Stack, Text, Value, op_name,
+    Access, Cell, DICT_STACK_LIMIT, DictStack, ErrorName, FileName, Interval, Key, KeyForm, Keys,
+    Kind, Loc, NAME_LIMIT, Name, Number, OPERAND_LIMIT, Object, Objects, Op, Operands, Refusal,
+    SaveName, SectionKind, Settings, Shape, Space, Value, dict_room, op_name, places,
 };
 pub use ps_shapes::{
-    Clip, Clips, DevicePoint, Matrix, NoMemory, Paper, Path, Point, Polygon, Polygons, Real, Rule,
-    Segment, Span, Spans, SpansList, Thresholds,
+    Clip, Clips, DevicePoint, Matrix, Paper, Path, Point, Polygon, Polygons, Real, Rule, Segment,
+    Span, Spans, SpansList, Thresholds,
 };
 pub use ranges::{Component, Lengths, LineCap, LineJoin, LineWidth, MiterLimit, PageSide};
 pub use regs::{Pages, Papers, RegField, Regs, SaveMark, Saves};

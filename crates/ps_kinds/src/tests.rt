@@ -135,8 +135,6 @@ fn copies_of_states_are_equal(rt: HostRuntime) -> Result<(), Fail> {
     assert!(rt; copy.regs == state.regs);
     assert!(rt; copy.count == 5);
     assert!(rt; copy.frames.len() == 2);
-    let boxed = Boxed::new(rt.alloc(), 4u32)?;
-    assert!(rt; boxed.copy()?.into_inner() == 4);
     let said = Act::Say(Text::from_bytes(rt.alloc(), b"done")?);
     assert!(rt; matches!(said.copy()?, Act::Say(_)));
     assert!(rt; room_for_frame(&Frames::new(rt.alloc())) == Ok(()));

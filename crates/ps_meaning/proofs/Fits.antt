@@ -4,6 +4,8 @@ use Rattle.std.specs.Ordering.{nat_cmp, is_gt, ordering_then, eq_by_cmp}
 use Rattle.std.specs.Cmp.{first_so, second_so}
 use Rattle.std.specs.List.{AllByRecursion}
 use Rattle.std.specs.FinMap.{FinMap, get, entries, get-entries, find}
+use Rattle.ps_objects.specs.Key.{cell_of_key}
+use Rattle.ps_objects.specs.Object.{cell_named}
 use Rattle.ps_objects.specs.declared.cell.Cell.{Cell}
 use Rattle.ps_objects.specs.declared.cell.SaveName.{SaveName}
 use Rattle.ps_objects.specs.declared.key.Key.{Key}
@@ -14,7 +16,7 @@ use Rattle.ps_memory.specs.Order.{key_cmp}
 use Rattle.ps_memory.specs.Memory.{is_global, newer, Slot, entry, item, Found, is, object_found}
 use Rattle.ps_memory.specs.Frame.{later}
 use Rattle.ps_memory.proofs.Order.{key_itself}
-use Rattle.ps_meaning.specs.Fits.{Shapes, FitsCell, FitsKey, FitsFound, SharedFound, key_is_shared, value_is_shared, is_system_dict, cell_named, takes, cell_of_key, key_takes}
+use Rattle.ps_meaning.specs.Fits.{Shapes, FitsCell, FitsKey, FitsFound, SharedFound, key_is_shared, value_is_shared, is_system_dict, takes, key_takes}
 use Rattle.ps_meaning.specs.Sound.{without_newer}
 
 pub apart : {X : Type 0} (x : X) → Some x ≡ None → ⊥
@@ -23,7 +25,7 @@ apart x e = cc
 -- ---- where more stands
 
 module _ (K J : Shapes) (same : (c : Cell) → K c ≢ None → J c ≡ K c) where
-  cell_stays : (o : Option Cell) (f : Shape → Bool) → FitsCell K o f → FitsCell J o f
+  pub cell_stays : (o : Option Cell) (f : Shape → Bool) → FitsCell K o f → FitsCell J o f
   cell_stays None f h = tt
   cell_stays (Some c) f h = (h.0, same c (λ a. apart h.0 (sym h.1 ∙ a)) ∙ h.1, h.2)
 

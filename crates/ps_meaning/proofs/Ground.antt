@@ -11,13 +11,14 @@ use Rattle.ps_objects.specs.declared.place.Loc.{Loc}
 use Rattle.ps_objects.specs.declared.place.Loc.TheVariants as loc
 use Rattle.ps_objects.specs.declared.place.Shape.{Shape}
 use Rattle.ps_objects.specs.declared.place.Shape.TheVariants as shape
-use Rattle.ps_memory.specs.Memory.{newer, Content, dictionary, items, characters, Memory, entry, access, item, whole, spot_of, Page, object_found, byte_found, page_found, in_content, in_string, part, told, keys_of, value_at, shape_in, standing, shape_of, store, fresh, save, restore, tell, do_store, do_fresh, perform}
+use Rattle.ps_memory.specs.Memory.{newer, same_save, Content, dictionary, items, characters, Memory, entry, access, item, whole, spot_of, Page, object_found, byte_found, page_found, in_content, in_string, part, told, keys_of, value_at, shape_in, standing, shape_of, store, fresh, save, restore, tell, do_store, do_fresh, perform}
 use Rattle.ps_memory.specs.Tree.{Tree, ends, looks, acts, asks}
 use Rattle.ps_memory.specs.Ownership.{same_cell}
 use Rattle.ps_memory.specs.Frame.{later}
 use Rattle.ps_memory.proofs.Order.{cell_is}
+use Rattle.ps_memory.proofs.Frame.{save_is}
 use Rattle.ps_meaning.specs.Fits.{FitsFound, IsLoc}
-use Rattle.ps_meaning.specs.Sound.{World, StringFits, SoundMemory, IsAnswer, made, resized, saved_at, restored_to, Lawful, StaysKin, Kept, SoundnessLaw}
+use Rattle.ps_meaning.specs.Sound.{World, StringFits, SoundMemory, IsAnswer, made, resized, saved_at, has_name, names_before, restored_to, Lawful, StaysKin, Kept, SoundnessLaw}
 use Rattle.ps_meaning.proofs.Fits.{apart, keys_fit}
 use Rattle.ps_meaning.proofs.Memory.{HasPage, all_kept, opened_in, placed, after_store, after_fresh, after_save, after_restore, no_string}
 
@@ -84,11 +85,15 @@ module _ (W : World) (M : Memory) (s : SoundMemory W M) where
 
 -- ---- the cells of other sections
 
-kin_itself : (W : World) → StaysKin W W
-kin_itself W = record { section = refl; others = λ c n. inl refl }
+pub kin_itself : (W : World) → StaysKin W W
+kin_itself W = record { section = refl; others = λ c n. inl refl; saves = λ s n h. h }
 
-kin_then : (W V U : World) → StaysKin W V → StaysKin V U → StaysKin W U
-kin_then W V U a b = record { section = b.section ∙ a.section; others = λ c n. go c (b.others c (λ e. n (e ∙ a.section))) (a.others c n) }
+pub kin_then : (W V U : World) → StaysKin W V → StaysKin V U → StaysKin W U
+kin_then W V U a b = record {
+  section = b.section ∙ a.section;
+  others = λ c n. go c (b.others c (λ e. n (e ∙ a.section))) (a.others c n);
+  saves = λ s n h. a.saves s n (b.saves s (λ e. n (e ∙ a.section)) h);
+}
   where
     go : (c : Cell) → ((U.shapes c ≡ V.shapes c) ⊎ (U.shapes c ≡ None)) → ((V.shapes c ≡ W.shapes c) ⊎ (V.shapes c ≡ None)) → ((U.shapes c ≡ W.shapes c) ⊎ (U.shapes c ≡ None))
     go c (inl x) (inl y) = inl (x ∙ y)
@@ -96,14 +101,34 @@ kin_then W V U a b = record { section = b.section ∙ a.section; others = λ c n
     go c (inr x) y = inr x
 
 kin_made : (W : World) (c : Cell) (sh : Shape) → c.section ≡ W.section → StaysKin W (made c sh W)
-kin_made W c sh e = record { section = refl; others = λ d n. go d n (same_cell d c) refl }
+kin_made W c sh e = record { section = refl; others = λ d n. go d n (same_cell d c) refl; saves = λ s n h. h }
   where
     go : (d : Cell) → d.section ≢ W.section → (b : Bool) → same_cell d c ≡ b → (cond b (Some sh) (W.shapes d) ≡ W.shapes d) ⊎ (cond b (Some sh) (W.shapes d) ≡ None)
     go d n true g = absurd (n (ap (λ (x : Cell). x.section) (cell_is d c g) ∙ e))
     go d n false g = inl refl
 
+kin_saved : (W : World) (r : SaveName) → r.section ≡ W.section → StaysKin W (saved_at r W)
+kin_saved W r e = record { section = refl; others = λ d n. inl refl; saves = λ s n h. go s n (same_save s r) refl h }
+  where
+    go : (s : SaveName) → s.section ≢ W.section → (b : Bool) → same_save s r ≡ b → cond b true (has_name s W.saves) ≡ true → has_name s W.saves ≡ true
+    go s n true g h = absurd (n (ap (λ (x : SaveName). x.section) (save_is s r g) ∙ e))
+    go s n false g h = h
+
+-- the names before one are among all
+still_named : (s r : SaveName) (rs : List SaveName) → has_name s (names_before r rs) ≡ true → has_name s rs ≡ true
+still_named s r [] h = h
+still_named s r (x ∷ rs) h = either (same_save s x) (go (same_save r x) h (still_named s r rs))
+  where
+    either : (b : Bool) → has_name s rs ≡ true → cond b true (has_name s rs) ≡ true
+    either true k = refl
+    either false k = k
+
+    go : (b : Bool) → has_name s (cond b rs (names_before r rs)) ≡ true → (has_name s (names_before r rs) ≡ true → has_name s rs ≡ true) → has_name s rs ≡ true
+    go true k rest = k
+    go false k rest = rest k
+
 kin_restored : (W : World) (r : SaveName) → StaysKin W (restored_to r W)
-kin_restored W r = record { section = refl; others = λ d n. go d (newer d r) }
+kin_restored W r = record { section = refl; others = λ d n. go d (newer d r); saves = λ s n h. still_named s r W.saves h }
   where
     go : (d : Cell) (b : Bool) → (cond b None (W.shapes d) ≡ W.shapes d) ⊎ (cond b None (W.shapes d) ≡ None)
     go d true = inr refl
@@ -118,7 +143,7 @@ ground (looks k f) W M Q l s =
     record { safe = r.safe; world = r.world; sound = r.sound; kin = r.kin; ends = r.ends }
 ground (acts (store q v) t) W M Q l s =
     let r = ground t (resized q v W) (do_store (spot_of q) v M) Q l.4 (after_store W M s q v l.0 l.1 l.2 l.3) in
-    record { safe = ((placed W M s q v l.0 l.1, l.1), r.safe); world = r.world; sound = r.sound; kin = record { section = r.kin.section; others = r.kin.others }; ends = r.ends }
+    record { safe = ((placed W M s q v l.0 l.1, l.1), r.safe); world = r.world; sound = r.sound; kin = record { section = r.kin.section; others = r.kin.others; saves = r.kin.saves }; ends = r.ends }
 ground (acts (fresh c sh) t) W M Q l s =
     let r = ground t (made c sh W) (do_fresh c sh M) Q l.1 (after_fresh W M s c sh l.0) in
     record {
@@ -131,10 +156,10 @@ ground (acts (fresh c sh) t) W M Q l s =
 ground (acts (save x) t) W M Q l s =
     let r = ground t (saved_at x W) (perform (save x) M) Q l.1 (after_save W M s x l.0) in
     record {
-      safe = ((λ c n. (s.shapes c ∙ l.0.0 c n, no_string W M s c (l.0.0 c n)), all_kept (λ r. later x r ≡ true) W.shapes W.saves M.kept s.kept l.0.1), r.safe);
+      safe = ((λ c n. (s.shapes c ∙ l.0.1 c n, no_string W M s c (l.0.1 c n)), all_kept (λ r. later x r ≡ true) W.shapes W.saves M.kept s.kept l.0.2), r.safe);
       world = r.world;
       sound = r.sound;
-      kin = record { section = r.kin.section; others = r.kin.others };
+      kin = kin_then W (saved_at x W) r.world (kin_saved W x l.0.0) r.kin;
       ends = r.ends;
     }
 ground (acts (restore x) t) W M Q l s =

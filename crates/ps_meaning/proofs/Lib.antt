@@ -4,3 +4,5 @@ pub mod Ground
 pub mod Kin
 pub mod Start
 pub mod Answer
+pub mod Looks
+mod Clauses

@@ -361,7 +361,7 @@ module _ (W : World) (M : Memory) (s : SoundMemory W M) where
     start = s.start;
     unique = s.unique;
     strings = s.strings;
-    kept = (refl, n.2, copy_stays W.shapes (without_newer r W.shapes) M.locals (λ c a. nothing_newer c) (λ c g. nothing_newer c) copy, n.1, s.kept);
+    kept = (refl, n.3, copy_stays W.shapes (without_newer r W.shapes) M.locals (λ c a. nothing_newer c) (λ c g. nothing_newer c) copy, n.2, s.kept);
     rand = s.rand;
     page = s.page;
   }
@@ -370,7 +370,7 @@ module _ (W : World) (M : Memory) (s : SoundMemory W M) where
       nothing_newer c = go (newer c r) refl
         where
           go : (b : Bool) → newer c r ≡ b → cond b None (W.shapes c) ≡ W.shapes c
-          go true e = sym (n.0 c e)
+          go true e = sym (n.1 c e)
           go false e = refl
 
       copy : SoundCopy W.shapes M.locals

@@ -6,6 +6,9 @@ use Rattle.std.specs.Ordering.{eq_by_cmp}
 use Rattle.std.specs.List.{AllByRecursion}
 use Rattle.std.specs.FinMap.{get, find, from_entries, get-from_entries}
 use Rattle.ps_shapes.specs.declared.numbers.Matrix.{Matrix}
+use Rattle.ps_names.specs.declared.places.TheConstants.{FIRST_DEFAULT_ENTRY}
+use Rattle.ps_objects.specs.Key.{cell_of_key}
+use Rattle.ps_objects.specs.Object.{cell_named}
 use Rattle.ps_objects.specs.declared.cell.Cell.{Cell}
 use Rattle.ps_objects.specs.declared.cell.Space.{Space}
 use Rattle.ps_objects.specs.declared.cell.Space.TheVariants.{Local, Global}
@@ -15,12 +18,12 @@ use Rattle.ps_objects.specs.declared.key.Key.{Key}
 use Rattle.ps_objects.specs.declared.object.Object.{Object}
 use Rattle.ps_objects.specs.declared.place.Value.TheVariants as value
 use Rattle.ps_objects.specs.declared.place.Shape.TheVariants as shape
-use Rattle.ps_objects.specs.OperatorNames.{operator_names, error_names}
+use Rattle.ps_names.specs.Operators.{operator_names, error_names}
 use Rattle.ps_memory.specs.Order.{cell_cmp, key_cmp}
 use Rattle.ps_memory.specs.Memory.{is_global, Cells, Content, dictionary, items, characters, Memory, Slot, entry, access, item, whole, held, is, object_found, in_content, at, shape_in, shape_at, blank}
 use Rattle.ps_memory.specs.Ownership.{same_cell}
 use Rattle.ps_memory.proofs.Order.{cells_total, keys_total, cell_is, cell_itself, key_is}
-use Rattle.ps_meaning.specs.Fits.{Shapes, FitsObject, FitsKey, FitsFound, SharedFound, key_is_shared, value_is_shared, cell_of_key, cell_named}
+use Rattle.ps_meaning.specs.Fits.{Shapes, FitsObject, FitsKey, FitsFound, SharedFound, key_is_shared, value_is_shared}
 use Rattle.ps_meaning.specs.Sound.{StringFits, IsUnique, StartStands, SoundMemory}
 use Rattle.ps_meaning.specs.Registers.{system_dict, global_dict, user_dict, SoundRegisters, world_of}
 use Rattle.ps_meaning.specs.Start.{error_dict, error_record, status_dict, font_directory, global_font_directory, version, product, empty_dash, numbered, system_values, system_entries, error_entries, error_record_entries, start_locals, start_globals, start_strings, start_memory, start_registers, StartLaw}
@@ -192,16 +195,16 @@ module _ (n : ℕ) (matrix : Matrix) (width height : ℕ) where
   values_fit = ((tt, tt), ((tt, tt), ((tt, tt), ((tt, (shape.Dict 0, stands.0, refl)), ((tt, (shape.Dict 0, stands.1.0, refl)), ((tt, (shape.Dict 0, stands.1.1.0, refl)), ((tt, (shape.Dict 0, stands.1.1.1.0, refl)), ((tt, (shape.Dict 0, stands.1.1.1.1.0, refl)), ((tt, (shape.Dict 0, stands.1.1.1.1.1.0, refl)), ((tt, (shape.Dict 0, stands.1.1.1.1.1.1.0, refl)), ((tt, (shape.Dict 0, stands.1.1.1.1.1.1.1.0, refl)), ((tt, tt), ((tt, (shape.Str 8, stands.1.1.1.1.1.1.1.1.0, refl)), ((tt, (shape.Str 8, stands.1.1.1.1.1.1.1.1.1.0, refl)), tt))))))))))))))
 
   system_fits : AllByRecursion (FitsEntry K) system_entries
-  system_fits = all_join (FitsEntry K) system_values (numbered 0 (take 219 operator_names)) values_fit (numbered_fits K 0 (take 219 operator_names))
+  system_fits = all_join (FitsEntry K) system_values (numbered 0 (take FIRST_DEFAULT_ENTRY operator_names)) values_fit (numbered_fits K 0 (take FIRST_DEFAULT_ENTRY operator_names))
 
   values_shared : AllByRecursion (SharedEntry system_dict) system_values
   values_shared = ((refl, refl), ((refl, refl), ((refl, refl), ((refl, refl), ((refl, refl), ((refl, refl), ((refl, refl), ((refl, refl), ((refl, refl), ((refl, refl), ((refl, refl), ((refl, refl), ((refl, refl), ((refl, refl), tt))))))))))))))
 
   system_shared : AllByRecursion (SharedEntry system_dict) system_entries
-  system_shared = all_join (SharedEntry system_dict) system_values (numbered 0 (take 219 operator_names)) values_shared (numbered_shared system_dict 0 (take 219 operator_names))
+  system_shared = all_join (SharedEntry system_dict) system_values (numbered 0 (take FIRST_DEFAULT_ENTRY operator_names)) values_shared (numbered_shared system_dict 0 (take FIRST_DEFAULT_ENTRY operator_names))
 
   locals_fit : AllByRecursion (λ e. FitsContent K e.0 e.1) start_locals
-  locals_fit = (dict_fits K user_dict 0 Unlimited [] tt, (dict_fits K error_dict 0 Unlimited error_entries (numbered_fits K 219 error_names), (dict_fits K error_record 0 Unlimited error_record_entries ((tt, tt), tt), (dict_fits K status_dict 0 Unlimited [] tt, (dict_fits K font_directory 0 ReadOnly [] tt, (string_content K version 8, (no_items K empty_dash, tt)))))))
+  locals_fit = (dict_fits K user_dict 0 Unlimited [] tt, (dict_fits K error_dict 0 Unlimited error_entries (numbered_fits K FIRST_DEFAULT_ENTRY error_names), (dict_fits K error_record 0 Unlimited error_record_entries ((tt, tt), tt), (dict_fits K status_dict 0 Unlimited [] tt, (dict_fits K font_directory 0 ReadOnly [] tt, (string_content K version 8, (no_items K empty_dash, tt)))))))
 
   globals_fit : AllByRecursion (λ e. FitsContent K e.0 e.1) start_globals
   globals_fit = (dict_fits K system_dict 0 ReadOnly system_entries system_fits, (dict_fits K global_dict 0 Unlimited [] tt, (dict_fits K global_font_directory 0 ReadOnly [] tt, (string_content K product 8, tt))))
@@ -266,4 +269,4 @@ module _ (n : ℕ) (matrix : Matrix) (width height : ℕ) where
   }
 
 pub start_law : StartLaw
-start_law n matrix width height = record { registers = registers n matrix width height; memory = memory n matrix width height }
+start_law matrix width height = record { registers = λ n. registers n matrix width height; memory = λ n. memory n matrix width height }

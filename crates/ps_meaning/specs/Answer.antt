@@ -1,16 +1,19 @@
 -- What comes of an application on a state and a memory.
 use Rattle.std.specs.Prelude.{◌≡◌, ℕ, suc, ◌+◌, Bool, false, not, cond, List, [], ◌∷◌, ◌++◌, drop, Option, Some, None, option_map, Result, Ok, Err}
+use Rattle.ps_shapes.specs.Sheet.{Sheet}
 use Rattle.ps_objects.specs.declared.cell.SaveName.{SaveName}
-use Rattle.ps_objects.specs.declared.error_name.ErrorName.{ErrorName}
+use Rattle.ps_names.specs.declared.error_name.ErrorName.{ErrorName}
 use Rattle.ps_objects.specs.declared.place.Loc.{Loc}
+use Rattle.ps_objects.specs.declared.place.Loc.TheVariants as loc
+use Rattle.ps_objects.specs.declared.place.Value.TheVariants as value
 use Rattle.ps_kinds.specs.declared.act.Act.{Act}
 use Rattle.ps_kinds.specs.declared.act.Act.TheVariants as act
 use Rattle.ps_kinds.specs.declared.frame.Frame.{Frame}
 use Rattle.ps_kinds.specs.declared.state.State.{State}
-use Rattle.ps_memory.specs.Memory.{Memory, value_at, shape_of, Action, fresh, save, restore, perform}
+use Rattle.ps_memory.specs.Memory.{Memory, value_at, shape_of, Action, store, fresh, save, restore, perform, lift}
 use Rattle.ps_memory.specs.Tree.{Change, puts, makes, opens, action_of, Application, done, restores, fail, look, ask, applied, Step, did, result, after, trail}
 use Rattle.ps_memory.specs.Ownership.{has_save}
-use Rattle.ps_memory.specs.Track.{Track, saw, acted, track_on, outer_on}
+use Rattle.ps_memory.specs.Track.{Track, saw, paper_lifted, acted, track_on, outer_on}
 
 -- goes on with what was read, or fails
 abbrev pub read : {A B : Type 0} → Result A ErrorName → (A → Application B) → Application B
@@ -27,6 +30,10 @@ looked_in log l = record { view = log.view; track = option_map (saw l) log.track
 
 abbrev pub acted_in : Log → Action → Log
 acted_in log w = record { view = perform w log.view; track = option_map (acted w) log.track }
+
+-- the paper is looked at and taken out
+abbrev pub lifted_in : Log → Log
+lifted_in log = record { view = lift log.view; track = option_map paper_lifted log.track }
 
 abbrev pub changed_in : Log → List Change → Log
 changed_in log [] = log
@@ -127,3 +134,13 @@ AnswersRun below a s M k r (Some q) = IsOuter s M q r
 -- an application answers as its run does, up to an outer restore
 abbrev pub AnswerLaw : Type 0
 AnswerLaw = (below : List Frame) (a : Application Effect) (s : State) (M : Memory) (k : Option Track) → AnswersRun below a s M k (answer_over below a s (record { view = M; track = k })) (outer_in a M k)
+
+-- ---- looks and paper
+
+-- a second look at a place tells nothing new
+abbrev pub SecondLookLaw : Type 0
+SecondLookLaw = (log : Log) (l : Loc) → looked_in (looked_in log l) l ≡ looked_in log l
+
+-- to lift the paper and lay another is to look at it and to store the other
+abbrev pub LayingLaw : Type 0
+LayingLaw = (log : Log) (p : Sheet) → acted_in (lifted_in log) (store loc.Paper (value.Paper p)) ≡ acted_in (looked_in log loc.Paper) (store loc.Paper (value.Paper p))

@@ -1,5 +1,7 @@
 -- Objects and keys whose cells stand, with a fitting shape and range.
 use Rattle.std.specs.Prelude.{◌≡◌, ℕ, ◌+◌, ◌<◌, Bool, true, false, ◌&&◌, ◌||◌, Option, Some, None, nat_eq, nat_le, nat_lt, ⊤}
+use Rattle.ps_objects.specs.Key.{cell_of_key}
+use Rattle.ps_objects.specs.Object.{cell_named}
 use Rattle.ps_objects.specs.declared.cell.Cell.{Cell}
 use Rattle.ps_objects.specs.declared.key.Key.{Key}
 use Rattle.ps_objects.specs.declared.key.Key.TheVariants as key
@@ -17,31 +19,19 @@ use Rattle.ps_memory.specs.Memory.{is_global, Slot, entry, item, Spot, held, byt
 abbrev pub Shapes : Type 0
 Shapes = Cell → Option Shape
 
--- the cell that an object names; files, filters, saves, operators and font ids name none
-abbrev pub cell_named : Kind → Option Cell
-cell_named (kind.Str c start len) = Some c
-cell_named (kind.Array c start len packed) = Some c
-cell_named (kind.Dict c) = Some c
-cell_named _ = None
-
 -- an interval lies within so many places, and its end has 32 bits, as lengths have
 abbrev pub lies_within : (start len size : ℕ) → Bool
 lies_within start len size = nat_le (start + len) size && nat_lt (start + len) 4294967296
 
 -- whether an object may name a cell of this shape
 abbrev pub takes : Kind → Shape → Bool
-takes (kind.Str c start len) (shape.Str n) = lies_within start len n
-takes (kind.Array c start len packed) (shape.Array n) = lies_within start len n
+takes (kind.Str part) (shape.Str n) = lies_within part.start part.len n
+takes (kind.Array part packed) (shape.Array n) = lies_within part.start part.len n
 takes (kind.Dict c) (shape.Dict n) = true
 takes _ _ = false
 
-abbrev pub cell_of_key : Key → Option Cell
-cell_of_key (key.Array c start len packed) = Some c
-cell_of_key (key.Dict c) = Some c
-cell_of_key _ = None
-
 abbrev pub key_takes : Key → Shape → Bool
-key_takes (key.Array c start len packed) (shape.Array n) = lies_within start len n
+key_takes (key.Array part packed) (shape.Array n) = lies_within part.start part.len n
 key_takes (key.Dict c) (shape.Dict n) = true
 key_takes _ _ = false
 

@@ -6,3 +6,4 @@ pub mod Start
 pub mod Answer
 pub mod Budgets
 pub mod Ready
+pub mod Clauses

@@ -60,7 +60,7 @@ size_of_page (out w h) = record { width = w; height = h }
 abbrev pub world_of : ℕ → Memory → World
 world_of n M = record { shapes = shape_at M; saves = map (λ k. k.0) M.kept; size = size_of_page M.page; section = n }
 
--- a sound state of registers and memory
-pub record SoundState (n : ℕ) (R : Regs) (M : Memory) : Type 0 where
-  pub registers : SoundRegisters (world_of n M) R
-  pub memory : SoundMemory (world_of n M) M
+-- a sound state of registers and memory, whatever section runs
+pub record SoundState (R : Regs) (M : Memory) : Type 0 where
+  pub registers : (n : ℕ) → SoundRegisters (world_of n M) R
+  pub memory : (n : ℕ) → SoundMemory (world_of n M) M

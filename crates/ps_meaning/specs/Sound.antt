@@ -142,9 +142,9 @@ abbrev pub IsNew : Cell → World → Type 0
 IsNew c W = (c.section ≡ W.section) × ((d : Cell) → d.section ≡ c.section → d.count ≡ c.count → W.shapes d ≡ None)
     × (is_global c ≡ false → AllByRecursion (λ r. newer c r ≡ true) W.saves)
 
--- nothing newer stands, and the save is later than the open ones and not of section 0
+-- a save of the section that runs: nothing newer stands, it is later than the open ones, and not of section 0
 abbrev pub IsNewSave : SaveName → World → Type 0
-IsNewSave s W = ((c : Cell) → newer c s ≡ true → W.shapes c ≡ None) × AllByRecursion (λ r. later s r ≡ true) W.saves × (1 ≤ s.section)
+IsNewSave s W = (s.section ≡ W.section) × ((c : Cell) → newer c s ≡ true → W.shapes c ≡ None) × AllByRecursion (λ r. later s r ≡ true) W.saves × (1 ≤ s.section)
 
 -- whatever fitting answers it gets, the tree looks and stores only where there is a place, stores what fits, makes cells and saves by
 -- their conditions, and ends with Q
@@ -158,10 +158,11 @@ Lawful (acts (restore s) t) W Q = (has_name s W.saves ≡ true) × Lawful t (res
 Lawful (acts (tell o) t) W Q = Lawful t W Q
 Lawful (asks c f) W Q = (W.shapes c ≢ None) × Lawful (f (standing (W.shapes c))) W Q
 
--- no cell of another section changes its shape or comes
+-- no cell of another section changes its shape or comes, and no save of another section comes
 pub record StaysKin (W V : World) : Type 0 where
   pub section : V.section ≡ W.section
   pub others : (c : Cell) → c.section ≢ W.section → (V.shapes c ≡ W.shapes c) ⊎ (V.shapes c ≡ None)
+  pub saves : (s : SaveName) → s.section ≢ W.section → has_name s V.saves ≡ true → has_name s W.saves ≡ true
 
 -- a run that is safe, and leaves a sound memory of a world with Q
 pub record Kept {A : Type 0} (t : Tree A) (W : World) (M : Memory) (Q : World → A → Type 0) : Type 0 where

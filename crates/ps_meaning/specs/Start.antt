@@ -3,6 +3,8 @@ use Rattle.std.specs.Prelude.{ℕ, suc, ◌*◌, pos, false, true, List, [], ◌
 use Rattle.std.specs.FinMap.{from_entries}
 use Rattle.ps_shapes.specs.declared.numbers.Matrix.{Matrix}
 use Rattle.ps_shapes.specs.declared.numbers.Real.{Real}
+use Rattle.ps_names.specs.declared.places.TheConstants.{FIRST_DEFAULT_ENTRY}
+use Rattle.ps_objects.specs.Object.{whole_of}
 use Rattle.ps_objects.specs.declared.access.Access.TheVariants.{Unlimited, ReadOnly}
 use Rattle.ps_objects.specs.declared.cell.Cell.{Cell}
 use Rattle.ps_objects.specs.declared.cell.Space.TheVariants.{Local, Global}
@@ -11,7 +13,7 @@ use Rattle.ps_objects.specs.declared.key.Key.TheVariants as key
 use Rattle.ps_objects.specs.declared.object.Object.{Object}
 use Rattle.ps_objects.specs.declared.object.Kind.{Kind}
 use Rattle.ps_objects.specs.declared.object.Kind.TheVariants as kind
-use Rattle.ps_objects.specs.OperatorNames.{operator_names, error_names}
+use Rattle.ps_names.specs.Operators.{operator_names, error_names}
 use Rattle.ps_kinds.specs.declared.graphics.Colour.TheVariants.{Gray}
 use Rattle.ps_kinds.specs.declared.graphics.GState.{GState}
 use Rattle.ps_kinds.specs.declared.ranges.LineCap.TheVariants.{Butt}
@@ -55,7 +57,7 @@ abbrev pub operator : ℕ → Object
 operator n = record { kind = kind.Operator n; exec = true; access = Unlimited }
 
 abbrev pub read_only_string : Cell → Object
-read_only_string c = record { kind = kind.Str c 0 8; exec = false; access = ReadOnly }
+read_only_string c = record { kind = kind.Str (whole_of c 8); exec = false; access = ReadOnly }
 
 -- the operators from a place in the list on, under their names
 abbrev pub numbered : ℕ → List (List ℕ) → List (Key × Object)
@@ -73,12 +75,12 @@ system_values =
     ∷ (key.Name (codes "languagelevel"), literal (kind.Integer (pos 2))) ∷ (key.Name (codes "version"), read_only_string version)
     ∷ (key.Name (codes "product"), read_only_string product) ∷ []
 
--- all operators but the default entries of errors, which begin at 219
+-- all operators but the default entries of errors
 abbrev pub system_entries : List (Key × Object)
-system_entries = system_values ++ numbered 0 (take 219 operator_names)
+system_entries = system_values ++ numbered 0 (take FIRST_DEFAULT_ENTRY operator_names)
 
 abbrev pub error_entries : List (Key × Object)
-error_entries = numbered 219 error_names
+error_entries = numbered FIRST_DEFAULT_ENTRY error_names
 
 abbrev pub error_record_entries : List (Key × Object)
 error_record_entries = (key.Name (codes "newerror"), literal (kind.Boolean false)) ∷ []
@@ -120,7 +122,7 @@ start_state matrix width height = record {
   cap = Butt;
   join = Miter;
   miter = whole_real 10;
-  dash = literal (kind.Array empty_dash 0 0 false);
+  dash = literal (kind.Array (whole_of empty_dash 0) false);
   offset = whole_real 0;
   lengths = [];
   flat = whole_real 1;
@@ -149,4 +151,4 @@ start_registers matrix width height = record {
 
 -- a job starts in a sound state
 abbrev pub StartLaw : Type 0
-StartLaw = (n : ℕ) (matrix : Matrix) (width height : ℕ) → SoundState n (start_registers matrix width height) (start_memory width height)
+StartLaw = (matrix : Matrix) (width height : ℕ) → SoundState (start_registers matrix width height) (start_memory width height)

@@ -13,7 +13,7 @@ use Rattle.ps_objects.specs.declared.place.Value.TheVariants as value
 use Rattle.ps_objects.specs.declared.place.Shape.{Shape}
 use Rattle.ps_memory.specs.Memory.{is_global, newer, same_save, Content, Cells, Memory, Slot, entry, access, item, whole, Spot, held, byte, rand, paper, spot_of, Found, is, in_content, in_string, part, at, told, keys_of, seen_at, value_at, shape_in, shape_at, standing, shape_of, Action, store, fresh, save, restore, tell, put_content, put_cell, do_store, content_of, do_fresh, copy_named, older_than, put_back, perform}
 use Rattle.ps_memory.specs.Tree.{Tree, ends, looks, acts, asks, Step, looked_at, did, result, trail, after, play}
-use Rattle.ps_memory.specs.Ownership.{same_cell, same_spot, in_cell, is_kept, Owned, nothing_owned, owned_at, saves_before, has_save, own, owns, outer_from, same_loc, is_among, looked_from}
+use Rattle.ps_memory.specs.Ownership.{same_cell, same_spot, in_cell, is_kept, Owned, nothing_owned, owned_at, saves_before, has_save, own, owns, outer_from, same_loc, is_among, looked_from, outlives}
 use Rattle.ps_memory.specs.Frame.{Allowed, Safe, Kin, FrameLaw}
 use Rattle.ps_memory.proofs.Places.{spot_is, store_other, fresh_here, fresh_other, restored}
 use Rattle.ps_memory.proofs.Stored.{stored, no_shape}
@@ -69,22 +69,15 @@ module _ (M₀ N₀ : Memory) where
   AgreeCopies o C D = (q : Spot) → is_kept q ≡ true → AgreeAt (o q) (in_copy C q) (in_copy D q) (at M₀ q) (at N₀ q)
 
   -- the copies of the trail's own saves
-  abbrev pub AgreeKept : (Spot → Bool) → List (SaveName × (Spot → Bool)) → List (SaveName × Cells) → List (SaveName × Cells) → Type 0
-  AgreeKept now [] ks ls = ⊤
-  AgreeKept now (o ∷ saves) (k ∷ ks) (l ∷ ls) = (k.0 ≡ o.0) × (l.0 ≡ o.0) × Whole o.1 × NoNewer now o.0 × AgreeCopies o.1 k.1 l.1 × AgreeKept now saves ks ls
-  AgreeKept now (o ∷ saves) _ _ = ⊥
+  abbrev pub AgreeKept : List (SaveName × (Spot → Bool)) → List (SaveName × Cells) → List (SaveName × Cells) → Type 0
+  AgreeKept [] ks ls = ⊤
+  AgreeKept (o ∷ saves) (k ∷ ks) (l ∷ ls) = (k.0 ≡ o.0) × (l.0 ≡ o.0) × Whole o.1 × NoNewer o.1 o.0 × AgreeCopies o.1 k.1 l.1 × AgreeKept saves ks ls
+  AgreeKept (o ∷ saves) _ _ = ⊥
 
   pub record Together (o : Owned) (M N : Memory) : Type 0 where
     pub places : (q : Spot) → AgreeAt (o.now q) (at M q) (at N q) (at M₀ q) (at N₀ q)
     pub whole : Whole o.now
-    pub kept : AgreeKept o.now o.saves M.kept N.kept
-
-  fewer : (now then : Spot → Bool) → ((c : Cell) (i : ℕ) → then (byte c i) ≡ false → now (byte c i) ≡ false)
-      → (saves : List (SaveName × (Spot → Bool))) (ks ls : List (SaveName × Cells)) → AgreeKept now saves ks ls → AgreeKept then saves ks ls
-  fewer now then h [] ks ls a = tt
-  fewer now then h (o ∷ saves) (k ∷ ks) (l ∷ ls) a = (a.0, a.1, a.2, λ c i n e. a.3 c i n (h c i e), a.4, fewer now then h saves ks ls a.5)
-  fewer now then h (o ∷ saves) [] ls a = absurd a
-  fewer now then h (o ∷ saves) (k ∷ ks) [] a = absurd a
+    pub kept : AgreeKept o.saves M.kept N.kept
 
   -- ---- a look
 
@@ -154,7 +147,7 @@ module _ (M₀ N₀ : Memory) where
   together_store o M N l v t a b = record {
     places = λ q. at_place q (same_spot p q) refl;
     whole = λ c s e. or_true (same_spot p (held c s)) _ (t.whole c s (rw (no_shape p M c a.0) at e));
-    kept = rw (kept_store p v M, kept_store p v N) (fewer o.now (own (store l v) o).now (λ c i e. or_false (same_spot p (byte c i)) _ e) o.saves M.kept N.kept t.kept);
+    kept = rw (kept_store p v M, kept_store p v N) t.kept;
   }
     where
       p : Spot
@@ -168,7 +161,7 @@ module _ (M₀ N₀ : Memory) where
   together_fresh o M N c sh t = record {
     places = λ q. at_place q (in_cell c q) refl;
     whole = λ d s e. all_of d s (same_cell d c) e;
-    kept = rw (kept_fresh c sh M, kept_fresh c sh N) (fewer o.now (own (fresh c sh) o).now (λ d i e. or_false (same_cell d c) _ e) o.saves M.kept N.kept t.kept);
+    kept = rw (kept_fresh c sh M, kept_fresh c sh N) t.kept;
   }
     where
       at_place : (q : Spot) (x : Bool) → in_cell c q ≡ x → AgreeAt (x || o.now q) (at (do_fresh c sh M) q) (at (do_fresh c sh N) q) (at M₀ q) (at N₀ q)
@@ -207,23 +200,23 @@ module _ (M₀ N₀ : Memory) where
       absent_at c i n false e g = (sym g.0 ∙ ap (λ o. in_string o i) (a.0 c n).1, sym g.1 ∙ ap (λ o. in_string o i) (b.0 c n).1)
 
   -- what the two memories keep under a name that the trail opened
-  record Copies (now : Spot → Bool) (s : SaveName) (saves : List (SaveName × (Spot → Bool))) (ks ls : List (SaveName × Cells)) : Type 0 where
+  record Copies (s : SaveName) (saves : List (SaveName × (Spot → Bool))) (ks ls : List (SaveName × Cells)) : Type 0 where
     copy : Cells
     other : Cells
     is_copy : copy_named s ks ≡ Some copy
     is_other : copy_named s ls ≡ Some other
     whole : Whole (owned_at s saves)
-    no_newer : NoNewer now s
+    no_newer : NoNewer (owned_at s saves) s
     agree : AgreeCopies (owned_at s saves) copy other
-    rest : AgreeKept now (saves_before s saves) (older_than s ks) (older_than s ls)
+    rest : AgreeKept (saves_before s saves) (older_than s ks) (older_than s ls)
 
-  found : (now : Spot → Bool) (s : SaveName) (saves : List (SaveName × (Spot → Bool))) (ks ls : List (SaveName × Cells)) → has_save s saves ≡ true → AgreeKept now saves ks ls → Copies now s saves ks ls
-  found now s [] ks ls h a = absurd (true≢false (sym h))
-  found now s (o ∷ saves) [] ls h a = absurd a
-  found now s (o ∷ saves) (k ∷ ks) [] h a = absurd a
-  found now s (o ∷ saves) (k ∷ ks) (l ∷ ls) h a = go (same_save s o.0) refl h (λ g. found now s saves ks ls g a.5)
+  found : (s : SaveName) (saves : List (SaveName × (Spot → Bool))) (ks ls : List (SaveName × Cells)) → has_save s saves ≡ true → AgreeKept saves ks ls → Copies s saves ks ls
+  found s [] ks ls h a = absurd (true≢false (sym h))
+  found s (o ∷ saves) [] ls h a = absurd a
+  found s (o ∷ saves) (k ∷ ks) [] h a = absurd a
+  found s (o ∷ saves) (k ∷ ks) (l ∷ ls) h a = go (same_save s o.0) refl h (λ g. found s saves ks ls g a.5)
     where
-      go : (x : Bool) → same_save s o.0 ≡ x → cond x true (has_save s saves) ≡ true → (has_save s saves ≡ true → Copies now s saves ks ls) → Copies now s (o ∷ saves) (k ∷ ks) (l ∷ ls)
+      go : (x : Bool) → same_save s o.0 ≡ x → cond x true (has_save s saves) ≡ true → (has_save s saves ≡ true → Copies s saves ks ls) → Copies s (o ∷ saves) (k ∷ ks) (l ∷ ls)
       go true e h ih =
           let ek = ap (same_save s) a.0 ∙ e in
           let el = ap (same_save s) a.1 ∙ e in
@@ -233,7 +226,7 @@ module _ (M₀ N₀ : Memory) where
             is_copy = ap (λ x. cond x (Some k.1) (copy_named s ks)) ek;
             is_other = ap (λ x. cond x (Some l.1) (copy_named s ls)) el;
             whole = λ c t g. rw e (a.2 c t (rw e at g));
-            no_newer = subst (NoNewer now) (sym (save_is s o.0 e)) a.3;
+            no_newer = λ c i n g. a.3 c i (ap (newer c) (sym (save_is s o.0 e)) ∙ n) (rw e at g);
             agree = λ q g. rw e (a.4 q g);
             rest = rw (e, ek, el) a.5;
           }
@@ -247,7 +240,7 @@ module _ (M₀ N₀ : Memory) where
             is_copy = ap (λ x. cond x (Some k.1) (copy_named s ks)) ek ∙ f.is_copy;
             is_other = ap (λ x. cond x (Some l.1) (copy_named s ls)) el ∙ f.is_other;
             whole = λ c t g. rw e (f.whole c t (rw e at g));
-            no_newer = f.no_newer;
+            no_newer = λ c i n g. f.no_newer c i n (rw e at g);
             agree = λ q g. rw e (f.agree q g);
             rest = rw (e, ek, el) f.rest;
           }
@@ -256,30 +249,30 @@ module _ (M₀ N₀ : Memory) where
   together_restore o M N s h t = rw (f.is_copy, f.is_other) (record {
     places = at_place;
     whole = λ c q e. whole_at c q (is_global c) e;
-    kept = fewer o.now (own (restore s) o).now (λ c i e. e) _ _ _ f.rest;
+    kept = f.rest;
   })
     where
-      f : Copies o.now s o.saves M.kept N.kept
-      f = found o.now s o.saves M.kept N.kept h t.kept
+      f : Copies s o.saves M.kept N.kept
+      f = found s o.saves M.kept N.kept h t.kept
 
-      whole_at : (c : Cell) (q : Slot) (x : Bool) → cond (not x) (owned_at s o.saves (held c whole)) (o.now (held c whole)) ≡ true → cond (not x) (owned_at s o.saves (held c q)) (o.now (held c q)) ≡ true
+      whole_at : (c : Cell) (q : Slot) (x : Bool) → cond x (o.now (held c whole)) (owned_at s o.saves (held c whole)) ≡ true → cond x (o.now (held c q)) (owned_at s o.saves (held c q)) ≡ true
       whole_at c q true e = t.whole c q e
       whole_at c q false e = f.whole c q e
 
-      held_at : (c : Cell) (q : Slot) (x : Bool) → (is_global c) ≡ x → AgreeAt (cond (not x) (owned_at s o.saves (held c q)) (o.now (held c q)))
+      held_at : (c : Cell) (q : Slot) (x : Bool) → (is_global c) ≡ x → AgreeAt (cond x (o.now (held c q)) (owned_at s o.saves (held c q)))
           (cond x (at M (held c q)) (in_content (get f.copy c) q)) (cond x (at N (held c q)) (in_content (get f.other c) q)) (at M₀ (held c q)) (at N₀ (held c q))
       held_at c q true e = t.places (held c q)
       held_at c q false e = f.agree (held c q) (ap not e)
 
-      gone : (c : Cell) (i : ℕ) (x : Bool) → newer c s ≡ true → o.now (byte c i) ≡ x → AgreeAt x (is value.Absent) (is value.Absent) (at M₀ (byte c i)) (at N₀ (byte c i))
+      gone : (c : Cell) (i : ℕ) (x : Bool) → newer c s ≡ true → owned_at s o.saves (byte c i) ≡ x → AgreeAt x (is value.Absent) (is value.Absent) (at M₀ (byte c i)) (at N₀ (byte c i))
       gone c i true n e = refl
       gone c i false n e = let g = f.no_newer c i n e in (sym g.0, sym g.1)
 
-      byte_at : (c : Cell) (i : ℕ) (x : Bool) → newer c s ≡ x → AgreeAt (o.now (byte c i)) (cond x (is value.Absent) (at M (byte c i))) (cond x (is value.Absent) (at N (byte c i))) (at M₀ (byte c i)) (at N₀ (byte c i))
-      byte_at c i true n = gone c i (o.now (byte c i)) n refl
+      byte_at : (c : Cell) (i : ℕ) (x : Bool) → newer c s ≡ x → AgreeAt (cond (not x) (o.now (byte c i)) (owned_at s o.saves (byte c i))) (cond x (is value.Absent) (at M (byte c i))) (cond x (is value.Absent) (at N (byte c i))) (at M₀ (byte c i)) (at N₀ (byte c i))
+      byte_at c i true n = gone c i (owned_at s o.saves (byte c i)) n refl
       byte_at c i false n = t.places (byte c i)
 
-      at_place : (q : Spot) → AgreeAt (cond (is_kept q) (owned_at s o.saves q) (o.now q)) (at (put_back s (Some f.copy) M) q) (at (put_back s (Some f.other) N) q) (at M₀ q) (at N₀ q)
+      at_place : (q : Spot) → AgreeAt (cond (outlives s q) (o.now q) (owned_at s o.saves q)) (at (put_back s (Some f.copy) M) q) (at (put_back s (Some f.other) N) q) (at M₀ q) (at N₀ q)
       at_place (held c q) = moved _ _ _ (restored s f.copy M (held c q)) (restored s f.other N (held c q)) (held_at c q (is_global c) refl)
       at_place (byte c i) = moved _ _ _ (restored s f.copy M (byte c i)) (restored s f.other N (byte c i)) (byte_at c i (newer c s) refl)
       at_place rand = moved _ _ _ (restored s f.copy M rand) (restored s f.other N rand) (t.places rand)

@@ -7,5 +7,7 @@ pub mod Undo
 pub mod Replace
 pub mod Writes
 pub mod Track
+pub mod Seen
+pub mod Laying
 mod Examples
 pub mod Keeping

@@ -10,6 +10,7 @@ use Rattle.ps_objects.specs.declared.cell.SaveName.{SaveName}
 use Rattle.ps_objects.specs.declared.cell.Space.{Space}
 use Rattle.ps_objects.specs.declared.cell.Space.TheVariants.{Local, Global}
 use Rattle.ps_objects.specs.declared.key.Key.{Key}
+use Rattle.ps_objects.specs.declared.objects.Interval.{Interval}
 use Rattle.ps_objects.specs.declared.key.Key.TheVariants as key
 use Rattle.ps_objects.specs.contracts.cell.CellOrd.TheImpl.Laws as cell_laws
 use Rattle.ps_objects.specs.contracts.key.KeyOrd.TheImpl.Laws as key_laws
@@ -47,6 +48,15 @@ cells_antisymmetric c d e =
     spaces Local Global h e = cc
     spaces Global Local h e = cc
 
+intervals_same : (s r : Interval) → ordering_then (cell_cmp s.cell r.cell) (ordering_then (nat_cmp s.start r.start) (nat_cmp s.len r.len)) ≡ Equal → s ≡ r
+intervals_same s r e =
+    let p = both _ _ e in
+    let q = both _ _ p.1 in
+    let a = cells_antisymmetric s.cell r.cell p.0 in
+    let b = nat_cmp-IsAntisymmetric s.start r.start q.0 in
+    let c = nat_cmp-IsAntisymmetric s.len r.len q.1 in
+    λ i. record { cell = a i; start = b i; len = c i }
+
 saves_same : (s r : SaveName) → ordering_then (nat_cmp s.section r.section) (nat_cmp s.count r.count) ≡ Equal → s ≡ r
 saves_same s r e =
     let p = both _ _ e in
@@ -61,15 +71,11 @@ keys_antisymmetric (key.Real a) (key.Real b) e = λ i. key.Real (record { count 
 keys_antisymmetric (key.Boolean a) (key.Boolean b) e = ap key.Boolean (bools_antisymmetric a b e)
 keys_antisymmetric (key.Operator a) (key.Operator b) e = ap key.Operator (nat_cmp-IsAntisymmetric a b e)
 keys_antisymmetric (key.Dict a) (key.Dict b) e = ap key.Dict (cells_antisymmetric a b e)
-keys_antisymmetric (key.Array a i j p) (key.Array b k l q) e =
+keys_antisymmetric (key.Array a p) (key.Array b q) e =
     let x = both _ _ e in
-    let y = both _ _ x.1 in
-    let z = both _ _ y.1 in
-    let c = cells_antisymmetric a b x.0 in
-    let m = nat_cmp-IsAntisymmetric i k y.0 in
-    let n = nat_cmp-IsAntisymmetric j l z.0 in
-    let r = bools_antisymmetric p q z.1 in
-    λ w. key.Array (c w) (m w) (n w) (r w)
+    let m = intervals_same a b x.0 in
+    let r = bools_antisymmetric p q x.1 in
+    λ w. key.Array (m w) (r w)
 keys_antisymmetric (key.File a i) (key.File b j) e =
     let x = both _ _ e in
     let m = nat_cmp-IsAntisymmetric a b x.0 in

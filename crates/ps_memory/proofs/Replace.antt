@@ -16,9 +16,9 @@ use Rattle.ps_objects.specs.declared.place.Shape.{Shape}
 use Rattle.ps_objects.specs.declared.place.Shape.TheVariants as shape
 use Rattle.ps_memory.specs.Order.{cell_cmp, key_cmp}
 use Rattle.ps_memory.specs.Memory.{is_global, newer, Content, dictionary, items, characters, Cells, Memory, Slot, entry, access, item, whole, Spot, held, byte, rand, paper, spot_of, part, shape_in, is_slot, is_byte, is_place, is_kind, Action, store, fresh, save, restore, tell, put_entry, put_item, put_content, put_byte, put_cell, with_part, do_store, content_of, new_bytes, do_fresh, perform}
-use Rattle.ps_memory.specs.Ownership.{same_cell, same_slot, same_spot, in_cell}
+use Rattle.ps_memory.specs.Ownership.{same_cell, same_slot, same_spot, in_cell, outlives}
 use Rattle.ps_memory.specs.Frame.{later, Allowed}
-use Rattle.ps_memory.specs.Writes.{apply, is_write, Applicable, outlives, replaced, note, ReplacingLaw}
+use Rattle.ps_memory.specs.Writes.{apply, is_write, Applicable, replaced, note, ReplacingLaw}
 use Rattle.ps_memory.proofs.Order.{cells_total, cells_antisymmetric, keys_total, keys_antisymmetric, cell_is, cell_itself, key_is}
 use Rattle.ps_memory.proofs.Places.{spot_is, part_other, part_strings, mapped, put_at, insert_other, length_put, length_set, string_fresh_other, store_other}
 use Rattle.ps_memory.proofs.Stored.{held_store, no_shape}

@@ -15,7 +15,7 @@ or_swap true true c = refl
 or_swap true false c = refl
 or_swap false b c = refl
 
-in_end : (l k : Loc) (xs : List Loc) → is_among l (xs ++ k ∷ []) ≡ is_among l (k ∷ xs)
+pub in_end : (l k : Loc) (xs : List Loc) → is_among l (xs ++ k ∷ []) ≡ is_among l (k ∷ xs)
 in_end l k [] = refl
 in_end l k (x ∷ xs) = ap (λ b. same_loc l x || b) (in_end l k xs) ∙ or_swap (same_loc l x) (same_loc l k) (is_among l xs)
 

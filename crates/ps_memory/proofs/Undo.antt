@@ -10,9 +10,9 @@ use Rattle.ps_objects.specs.declared.place.Shape.{Shape}
 use Rattle.ps_objects.specs.declared.place.Shape.TheVariants as shape
 use Rattle.ps_memory.specs.Order.{cell_cmp}
 use Rattle.ps_memory.specs.Memory.{is_global, newer, same_save, Content, dictionary, items, characters, Cells, Memory, whole, Spot, held, byte, rand, paper, spot_of, in_content, shape_in, is_slot, is_byte, is_place, Action, store, fresh, save, restore, tell, put_content, put_byte, put_cell, do_store, content_of, new_bytes, do_fresh, copy_named, older_than, put_back, perform}
-use Rattle.ps_memory.specs.Ownership.{same_cell}
+use Rattle.ps_memory.specs.Ownership.{same_cell, outlives}
 use Rattle.ps_memory.specs.Frame.{IsUnused}
-use Rattle.ps_memory.specs.Writes.{apply, Applicable, outlives, undo}
+use Rattle.ps_memory.specs.Writes.{apply, Applicable, undo}
 use Rattle.ps_memory.proofs.Order.{cells_total}
 use Rattle.ps_memory.proofs.Places.{kept_at, put_other, put_at, mapped, string_fresh_other, restored}
 use Rattle.ps_memory.proofs.Frame.{save_is, kept_store, kept_fresh}
@@ -141,6 +141,10 @@ newer_than_named s c (k ∷ ks) C all e = go (same_save s k.0) refl e (newer_tha
     go : (x : Bool) → same_save s k.0 ≡ x → cond x (Some k.1) (copy_named s ks) ≡ Some C → (copy_named s ks ≡ Some C → newer c s ≡ true) → newer c s ≡ true
     go true i e ih = ap (newer c) (save_is s k.0 i) ∙ all.0
     go false i e ih = ih e
+
+-- a cell that is newer than all open saves is newer than each that the writes opened
+pub newer_than_open : (s : SaveName) (c : Cell) (ws : List Action) (N : Memory) → Applicable ws N → is_open s ws ≡ true → AllByRecursion (λ k. newer c k.0 ≡ true) (apply ws N).kept → newer c s ≡ true
+newer_than_open s c ws N f h all = let o = opened s ws N f h in newer_than_named s c (apply ws N).kept o.copy all o.named
 
 pub undone : (s : SaveName) (ws : List Action) (N : Memory) → Applicable ws N → is_open s ws ≡ true → perform (restore s) (apply ws N) ≡ apply (undo s ws) N
 undone s [] N f h = absurd (true≢false (sym h))

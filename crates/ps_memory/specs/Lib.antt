@@ -1,5 +1,7 @@
 pub mod Order
 pub mod Memory
+pub mod Next
+pub mod Holders
 pub mod Tree
 pub mod Ownership
 pub mod Frame

@@ -5,7 +5,7 @@ use Rattle.ps_objects.specs.declared.cell.Cell.{Cell}
 use Rattle.ps_objects.specs.declared.cell.SaveName.{SaveName}
 use Rattle.ps_objects.specs.declared.place.Loc.{Loc}
 use Rattle.ps_memory.specs.Order.{cell_cmp, key_cmp}
-use Rattle.ps_memory.specs.Memory.{is_global, same_save, Slot, entry, access, item, whole, Spot, held, byte, rand, paper, spot_of, Action, store, fresh, save, restore, tell}
+use Rattle.ps_memory.specs.Memory.{is_global, newer, same_save, Slot, entry, access, item, whole, Spot, held, byte, rand, paper, spot_of, Action, store, fresh, save, restore, tell}
 use Rattle.ps_memory.specs.Tree.{Step, looked_at, did}
 
 abbrev pub same_cell : Cell → Cell → Bool
@@ -38,6 +38,13 @@ is_kept (byte c i) = false
 is_kept rand = false
 is_kept paper = false
 
+-- what outlives the restore of an older save: what is global, bytes of older strings, the random state and the paper
+abbrev pub outlives : SaveName → Spot → Bool
+outlives s (held c t) = is_global c
+outlives s (byte c i) = not (newer c s)
+outlives s rand = true
+outlives s paper = true
+
 -- the places that are owned now, and those that were owned at each save that the trail made
 pub record Owned : Type 0 where
   pub now : Spot → Bool
@@ -58,12 +65,12 @@ abbrev pub has_save : SaveName → List (SaveName × (Spot → Bool)) → Bool
 has_save s [] = false
 has_save s (k ∷ saves) = cond (same_save s k.0) true (has_save s saves)
 
--- A store owns its place, and a new cell all its places. A restore gives back the ownership of what it gives back.
+-- A store owns its place, and a new cell all its places. A restore gives back the ownership of what doesn't outlive it.
 abbrev pub own : Action → Owned → Owned
 own (store l v) o = record { now = λ q. same_spot (spot_of l) q || o.now q; saves = o.saves }
 own (fresh c sh) o = record { now = λ q. in_cell c q || o.now q; saves = o.saves }
 own (save s) o = record { now = o.now; saves = (s, o.now) ∷ o.saves }
-own (restore s) o = record { now = λ q. cond (is_kept q) (owned_at s o.saves q) (o.now q); saves = saves_before s o.saves }
+own (restore s) o = record { now = λ q. cond (outlives s q) (o.now q) (owned_at s o.saves q); saves = saves_before s o.saves }
 own (tell x) o = o
 
 -- the keys of a dictionary are owned where the trail made it: no store owns them

@@ -2,10 +2,11 @@
 use Rattle.std.specs.Prelude.{◌≡◌, cond, ◌||◌, List, [], ◌∷◌, ◌++◌, Option, Some, None}
 use Rattle.ps_objects.specs.declared.cell.SaveName.{SaveName}
 use Rattle.ps_objects.specs.declared.place.Loc.{Loc}
+use Rattle.ps_objects.specs.declared.place.Loc.TheVariants as loc
 use Rattle.ps_memory.specs.Memory.{Memory, value_at, shape_of, Action, restore, perform}
 use Rattle.ps_memory.specs.Tree.{Tree, ends, looks, acts, asks, trail}
 use Rattle.ps_memory.specs.Ownership.{Owned, nothing_owned, has_save, own, owns, is_among, looked, outer}
-use Rattle.ps_memory.specs.Writes.{note, writes}
+use Rattle.ps_memory.specs.Writes.{with_empty_paper, note, writes}
 
 -- what is owned, what was looked at while it wasn't owned, in order, and the writes
 pub record Track : Type 0 where
@@ -15,6 +16,10 @@ pub record Track : Type 0 where
 
 abbrev pub saw : Loc → Track → Track
 saw l k = record { owned = k.owned; seen = cond (owns k.owned l || is_among l k.seen) k.seen (k.seen ++ l ∷ []); written = k.written }
+
+-- the paper is looked at and taken out: while it is out, what the writes store there is paper of no size
+abbrev pub paper_lifted : Track → Track
+paper_lifted k = record { owned = (saw loc.Paper k).owned; seen = (saw loc.Paper k).seen; written = with_empty_paper k.written }
 
 abbrev pub acted : Action → Track → Track
 acted w k = record { owned = own w k.owned; seen = k.seen; written = note w k.written }

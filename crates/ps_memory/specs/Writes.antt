@@ -3,10 +3,12 @@ use Rattle.std.specs.Prelude.{◌≡◌, Bool, true, false, cond, not, List, [],
 use Rattle.std.specs.List.{AllByRecursion}
 use Rattle.ps_objects.specs.declared.cell.SaveName.{SaveName}
 use Rattle.ps_objects.specs.declared.place.Loc.{Loc}
+use Rattle.ps_objects.specs.declared.place.Loc.TheVariants as loc
 use Rattle.ps_objects.specs.declared.place.Value.{Value}
-use Rattle.ps_memory.specs.Memory.{is_global, newer, same_save, Spot, held, byte, rand, paper, spot_of, Memory, Action, store, fresh, save, restore, tell, perform, value_at}
+use Rattle.ps_objects.specs.declared.place.Value.TheVariants as value
+use Rattle.ps_memory.specs.Memory.{is_global, newer, same_save, Spot, held, byte, rand, paper, spot_of, Memory, Action, store, fresh, save, restore, tell, perform, value_at, blank}
 use Rattle.ps_memory.specs.Tree.{Tree, Step, looked_at, did, result, trail, after}
-use Rattle.ps_memory.specs.Ownership.{same_spot, in_cell, looked, outer}
+use Rattle.ps_memory.specs.Ownership.{same_spot, in_cell, outlives, looked, outer}
 use Rattle.ps_memory.specs.Frame.{Allowed, Safe, Kin}
 
 -- a list of writes done on a memory, the newest write first
@@ -26,13 +28,7 @@ abbrev pub Applicable : List Action → Memory → Type 0
 Applicable [] M = ⊤
 Applicable (w ∷ ws) M = (is_write w ≡ true) × Allowed w (apply ws M) × Applicable ws M
 
--- what outlives the restore of an older save: what is global, bytes of older strings, the random state and the paper
-abbrev pub outlives : SaveName → Spot → Bool
-outlives s (held c t) = is_global c
-outlives s (byte c i) = not (newer c s)
-outlives s rand = true
-outlives s paper = true
-
+-- what outlives the restore of an older save
 abbrev pub survives : SaveName → Action → Bool
 survives s (store l v) = outlives s (spot_of l)
 survives s (fresh c sh) = is_global c
@@ -55,6 +51,10 @@ replaced l v (fresh c sh ∷ ws) = cond (in_cell c (spot_of l)) None (option_map
 replaced l v (save s ∷ ws) = cond (outlives s (spot_of l)) (option_map (λ us. save s ∷ us) (replaced l v ws)) None
 replaced l v (restore s ∷ ws) = None
 replaced l v (tell o ∷ ws) = None
+
+-- the writes with paper of no size in place of the newest paper that they store
+abbrev pub with_empty_paper : List Action → List Action
+with_empty_paper ws = elim (replaced loc.Paper (value.Paper (blank 0 0)) ws) as (λ _. List Action) [ None ↦ ws | Some us ↦ us ]
 
 -- the writes with one action more: a restore takes some back, and a store may replace an earlier one
 abbrev pub note : Action → List Action → List Action

@@ -2,8 +2,8 @@
 use Rattle.std.specs.Prelude.{Result, Ok, Err}
 use Rattle.ps_objects.specs.declared.access.Access.{Access}
 use Rattle.ps_objects.specs.declared.access.Access.TheVariants.{Unlimited, ReadOnly, ExecuteOnly, NoAccess}
-use Rattle.ps_objects.specs.declared.error_name.ErrorName.{ErrorName}
-use Rattle.ps_objects.specs.declared.error_name.ErrorName.TheVariants.{InvalidAccess}
+use Rattle.ps_names.specs.declared.error_name.ErrorName.{ErrorName}
+use Rattle.ps_names.specs.declared.error_name.ErrorName.TheVariants.{InvalidAccess}
 
 abbrev pub read_right : Access → Result (Unit {0}) ErrorName
 read_right Unlimited = Ok tt

@@ -3,8 +3,8 @@ use Rattle.std.specs.Prelude.{ℕ, pos, negsuc, ◌&&◌, ◌==◌, List, true, 
 use Rattle.std.specs.Ordering.{int_eq}
 use Rattle.ps_shapes.specs.declared.numbers.Real.{Real}
 use Rattle.ps_objects.specs.declared.cell.Cell.{Cell}
-use Rattle.ps_objects.specs.declared.error_name.ErrorName.{ErrorName}
-use Rattle.ps_objects.specs.declared.error_name.ErrorName.TheVariants.{TypeCheck}
+use Rattle.ps_names.specs.declared.error_name.ErrorName.{ErrorName}
+use Rattle.ps_names.specs.declared.error_name.ErrorName.TheVariants.{TypeCheck}
 use Rattle.ps_objects.specs.declared.key.Key.{Key}
 use Rattle.ps_objects.specs.declared.key.Key.TheVariants as key
 use Rattle.ps_objects.specs.declared.key.KeyForm.{KeyForm}
@@ -29,8 +29,8 @@ key_form_of kind.Null = Err TypeCheck
 key_form_of kind.Mark = Ok (form.Key key.Mark)
 key_form_of (kind.Name n) = Ok (form.Key (key.Name n))
 key_form_of (kind.Operator op) = Ok (form.Key (key.Operator op))
-key_form_of (kind.Str cell start len) = Ok (form.Text (record { cell = cell; start = start; len = len }))
-key_form_of (kind.Array cell start len packed) = Ok (form.Key (key.Array cell start len packed))
+key_form_of (kind.Str interval) = Ok (form.Text interval)
+key_form_of (kind.Array interval packed) = Ok (form.Key (key.Array interval packed))
 key_form_of (kind.Dict cell) = Ok (form.Key (key.Dict cell))
 key_form_of (kind.File section) = Ok (form.Key (key.File section 0))
 key_form_of (kind.Filter section layer) = Ok (form.Key (key.File section layer))
@@ -48,17 +48,17 @@ key_kind (key.Real r) = kind.Real r
 key_kind (key.Boolean b) = kind.Boolean b
 key_kind (key.Operator op) = kind.Operator op
 key_kind (key.Dict cell) = kind.Dict cell
-key_kind (key.Array cell start len packed) = kind.Array cell start len packed
+key_kind (key.Array interval packed) = kind.Array interval packed
 key_kind (key.File section layer) = if layer == 0 then kind.File section else kind.Filter section layer
 key_kind (key.Save save) = kind.Save save
 key_kind (key.FontId cell) = kind.FontId cell
 key_kind key.Mark = kind.Mark
 
 -- the cell that a key names
-abbrev pub key_cell : Key → Option Cell
-key_cell (key.Dict cell) = Some cell
-key_cell (key.Array cell _ _ _) = Some cell
-key_cell _ = None
+abbrev pub cell_of_key : Key → Option Cell
+cell_of_key (key.Dict cell) = Some cell
+cell_of_key (key.Array interval _) = Some interval.cell
+cell_of_key _ = None
 
 -- the order of the kinds of keys
 abbrev pub kind_rank : Key → ℕ
@@ -69,7 +69,7 @@ kind_rank (key.Boolean false) = 3
 kind_rank (key.Boolean true) = 4
 kind_rank (key.Operator _) = 5
 kind_rank (key.Dict _) = 6
-kind_rank (key.Array _ _ _ _) = 7
+kind_rank (key.Array _ _) = 7
 kind_rank (key.File _ _) = 8
 kind_rank (key.Save _) = 9
 kind_rank (key.FontId _) = 10

@@ -1,10 +1,6 @@
 pub mod Access
 pub mod Cell
-pub mod ErrorName
 pub mod Key
 pub mod Name
 pub mod Object
-pub mod Op
-pub mod OperatorNames
 pub mod Operands
-pub mod Turned

@@ -1,8 +1,9 @@
 -- Bytes as a name.
 use Rattle.std.specs.Prelude.{ℕ, List, length, nat_lt, if◌then◌else◌, Result, Ok, Err}
-use Rattle.ps_objects.specs.declared.error_name.ErrorName.{ErrorName}
-use Rattle.ps_objects.specs.declared.error_name.ErrorName.TheVariants.{LimitCheck}
+use Rattle.ps_names.specs.declared.error_name.ErrorName.{ErrorName}
+use Rattle.ps_names.specs.declared.error_name.ErrorName.TheVariants.{LimitCheck}
+use Rattle.ps_names.specs.declared.op.TheConstants.{NAME_LIMIT}
 
--- at most 127 bytes
+-- the name with these bytes: limitcheck where they are too many
 abbrev pub name_of : List ℕ → Result (List ℕ) ErrorName
-name_of bytes = if nat_lt 127 (length bytes) then Err LimitCheck else Ok bytes
+name_of bytes = if nat_lt NAME_LIMIT (length bytes) then Err LimitCheck else Ok bytes

@@ -3,11 +3,12 @@ use Rattle.std.specs.Prelude.{◌≡◌, ℕ, ℤ, ◌+◌, Bool, List, length, 
 use Rattle.ps_objects.specs.Access.{read_right, write_right, run_right}
 use Rattle.ps_objects.specs.declared.cell.Cell.{Cell}
 use Rattle.ps_objects.specs.declared.cell.SaveName.{SaveName}
-use Rattle.ps_objects.specs.declared.error_name.ErrorName.{ErrorName}
-use Rattle.ps_objects.specs.declared.error_name.ErrorName.TheVariants.{DictStackOverflow, StackUnderflow, StackOverflow, TypeCheck}
+use Rattle.ps_names.specs.declared.error_name.ErrorName.{ErrorName}
+use Rattle.ps_names.specs.declared.error_name.ErrorName.TheVariants.{DictStackOverflow, StackUnderflow, StackOverflow, TypeCheck}
 use Rattle.ps_objects.specs.declared.object.Object.{Object}
 use Rattle.ps_objects.specs.declared.object.Kind.{Kind}
 use Rattle.ps_objects.specs.declared.object.Kind.TheVariants as kind
+use Rattle.ps_objects.specs.declared.objects.TheConstants.{DICT_STACK_LIMIT, OPERAND_LIMIT}
 use Rattle.ps_objects.specs.declared.objects.FileName.{FileName}
 use Rattle.ps_objects.specs.declared.objects.Interval.{Interval}
 use Rattle.ps_objects.specs.declared.objects.Number.{Number}
@@ -19,13 +20,13 @@ use Rattle.ps_objects.specs.declared.refusal.Refusal.TheVariants as refusal
 abbrev pub needed : ℕ → List Object → Result (Unit {0}) ErrorName
 needed n xs = if nat_lt (length xs) n then Err StackUnderflow else Ok tt
 
--- at most 5000 operands, with n more
+-- n more operands stay within the limit
 abbrev pub room_for : ℕ → List Object → Result (Unit {0}) ErrorName
-room_for n xs = if nat_lt 5000 (length xs + n) then Err StackOverflow else Ok tt
+room_for n xs = if nat_lt OPERAND_LIMIT (length xs + n) then Err StackOverflow else Ok tt
 
--- fewer than 100 dictionaries
+-- one more dictionary stays within the limit
 abbrev pub dict_room : List Cell → Result (Unit {0}) ErrorName
-dict_room cells = if nat_lt (length cells) 100 then Ok tt else Err DictStackOverflow
+dict_room cells = if nat_lt (length cells) DICT_STACK_LIMIT then Ok tt else Err DictStackOverflow
 
 abbrev pub object_at : ℕ → List Object → Result Object ErrorName
 object_at depth xs = elim (slice_get xs depth) [ None ↦ Err StackUnderflow | Some x ↦ Ok x ]
@@ -56,11 +57,11 @@ dict_of (kind.Dict cell) = Ok cell
 dict_of _ = Err TypeCheck
 
 abbrev pub array_of : Kind → Result Interval ErrorName
-array_of (kind.Array cell start len _) = Ok (record { cell = cell; start = start; len = len })
+array_of (kind.Array interval _) = Ok interval
 array_of _ = Err TypeCheck
 
 abbrev pub string_of : Kind → Result Interval ErrorName
-string_of (kind.Str cell start len) = Ok (record { cell = cell; start = start; len = len })
+string_of (kind.Str interval) = Ok interval
 string_of _ = Err TypeCheck
 
 -- the text of a section is layer 0

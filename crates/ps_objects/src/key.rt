@@ -1,7 +1,7 @@
 //! Keys of dictionaries.
 ghost use Rattle.std.specs.Prelude.{◌≡◌, IfOk, nat_lt, true, false};
 ghost use Rattle.ps_objects.specs.Operands.{Reads};
-ghost use Rattle.ps_objects.specs.Key.{key_form_of, real_key, key_kind, key_cell, kind_rank};
+ghost use Rattle.ps_objects.specs.Key.{key_form_of, real_key, key_kind, cell_of_key, kind_rank};
 ghost use Rattle.std.specs.declared.cmp.Ordering.TheVariants.{Less};
 
 use crate::{
@@ -19,18 +19,10 @@ pub enum Key {
     Boolean(bool),
     Operator(Op),
     Dict(Cell),
-    Array {
-        cell: Cell,
-        start: u32,
-        len: u32,
-        packed: bool,
-    },
+    Array { interval: Interval, packed: bool },
 
     /// The text of a section, which is layer 0, or a filter.
-    File {
-        section: u32,
-        layer: u32,
-    },
+    File { section: u32, layer: u32 },
     Save(SaveName),
     FontId(Cell),
     Mark,
@@ -57,15 +49,8 @@ impl Key {
             Key::Boolean(b) => Key::Boolean(*b),
             Key::Operator(op) => Key::Operator(*op),
             Key::Dict(cell) => Key::Dict(*cell),
-            Key::Array {
-                cell,
-                start,
-                len,
-                packed,
-            } => Key::Array {
-                cell: *cell,
-                start: *start,
-                len: *len,
+            Key::Array { interval, packed } => Key::Array {
+                interval: *interval,
                 packed: *packed,
             },
             Key::File { section, layer } => Key::File {
@@ -106,15 +91,8 @@ impl Key {
             Key::Boolean(b) => Kind::Boolean(*b),
             Key::Operator(op) => Kind::Operator(*op),
             Key::Dict(cell) => Kind::Dict(*cell),
-            Key::Array {
-                cell,
-                start,
-                len,
-                packed,
-            } => Kind::Array {
-                cell: *cell,
-                start: *start,
-                len: *len,
+            Key::Array { interval, packed } => Kind::Array {
+                interval: *interval,
                 packed: *packed,
             },
             Key::File { section, layer } => file_kind(*section, *layer),
@@ -126,11 +104,11 @@ impl Key {
 
     /// The cell that the key names.
     pub fn cell(&self) -> Option<Cell>
-        ensures { result ≡ key_cell self.now }
+        ensures { result ≡ cell_of_key self.now }
     {
         match self {
             Key::Dict(cell) => Some(*cell),
-            Key::Array { cell, .. } => Some(*cell),
+            Key::Array { interval, .. } => Some(interval.cell),
             _ => None,
         }
     }
@@ -155,22 +133,9 @@ impl Kind {
             Kind::Mark => Key::Mark,
             Kind::Name(name) => Key::Name(name.copy()?),
             Kind::Operator(op) => Key::Operator(*op),
-            Kind::Str { cell, start, len } => {
-                return Ok(KeyForm::Text(Interval {
-                    cell: *cell,
-                    start: *start,
-                    len: *len,
-                }));
-            }
-            Kind::Array {
-                cell,
-                start,
-                len,
-                packed,
-            } => Key::Array {
-                cell: *cell,
-                start: *start,
-                len: *len,
+            Kind::Str(interval) => return Ok(KeyForm::Text(*interval)),
+            Kind::Array { interval, packed } => Key::Array {
+                interval: *interval,
                 packed: *packed,
             },
             Kind::Dict(cell) => Key::Dict(*cell),

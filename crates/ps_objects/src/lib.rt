@@ -3,41 +3,30 @@
 
 mod access;
 mod cell;
-mod duplicate;
-mod error_name;
 mod key;
 mod name;
 mod object;
 mod objects;
-mod op;
-mod operator_names;
 mod place;
 mod refusal;
 mod section;
-mod sequence;
 mod settings;
-mod stack;
 #[cfg(test)]
 mod tests;
-mod text;
 
 pub use access::Access;
 pub use cell::{Cell, SaveName, Space};
-pub use duplicate::Duplicate;
-pub use error_name::ErrorName;
+pub use copy_lists::{Duplicate, NoMemory, Sequence, Stack, Text};
 pub use key::{Key, KeyForm, Keys};
-pub use name::{NAME_LIMIT, Name};
+pub use name::Name;
 pub use object::{Kind, Object};
 pub use objects::{
-    DICT_STACK_LIMIT, DictStack, FileName, Interval, Number, OPERAND_LIMIT, Objects,
+    DICT_STACK_LIMIT, DictStack, FileName, Interval, Number, OPERAND_LIMIT, Objects, Operands,
+    dict_room,
 };
-pub use op::{FIRST_DEFAULT_ENTRY, OPERATOR_COUNT, Op};
-pub use operator_names::op_name;
 pub use place::{Loc, Shape, Value};
-pub use ps_shapes::{Matrix, NoMemory, Paper, Real};
+pub use ps_names::{ErrorName, NAME_LIMIT, Op, op_name, places};
+pub use ps_shapes::{Matrix, Paper, Real};
 pub use refusal::Refusal;
 pub use section::SectionKind;
-pub use sequence::Sequence;
 pub use settings::Settings;
-pub use stack::Stack;
-pub use text::Text;

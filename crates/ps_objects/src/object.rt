@@ -1,7 +1,7 @@
 //! Objects.
 ghost use Rattle.std.specs.Prelude.{◌≡◌, IfOk};
 
-use crate::{Access, Cell, Duplicate, Name, NoMemory, Op, Real, SaveName};
+use crate::{Access, Cell, Duplicate, Interval, Name, NoMemory, Op, Real, SaveName};
 use std::mem::size_of;
 
 /// The type of an object, and its value or the cell that holds it. A string or an array is an interval of a cell.
@@ -14,29 +14,15 @@ pub enum Kind {
     Mark,
     Name(Name),
     Operator(Op),
-    Str {
-        cell: Cell,
-        start: u32,
-        len: u32,
-    },
-    Array {
-        cell: Cell,
-        start: u32,
-        len: u32,
-        packed: bool,
-    },
+    Str(Interval),
+    Array { interval: Interval, packed: bool },
     Dict(Cell),
 
     /// The text of a section.
-    File {
-        section: u32,
-    },
+    File { section: u32 },
 
     /// A decoding filter over the text of a section, or over a lower layer; the lowest layer is 1.
-    Filter {
-        section: u32,
-        layer: u32,
-    },
+    Filter { section: u32, layer: u32 },
     Save(SaveName),
 
     /// What `definefont` stores as `FID` in the dictionary of this cell.
@@ -66,20 +52,9 @@ impl Kind {
             Kind::Mark => Kind::Mark,
             Kind::Name(name) => Kind::Name(name.copy()?),
             Kind::Operator(op) => Kind::Operator(*op),
-            Kind::Str { cell, start, len } => Kind::Str {
-                cell: *cell,
-                start: *start,
-                len: *len,
-            },
-            Kind::Array {
-                cell,
-                start,
-                len,
-                packed,
-            } => Kind::Array {
-                cell: *cell,
-                start: *start,
-                len: *len,
+            Kind::Str(interval) => Kind::Str(*interval),
+            Kind::Array { interval, packed } => Kind::Array {
+                interval: *interval,
                 packed: *packed,
             },
             Kind::Dict(cell) => Kind::Dict(*cell),
@@ -95,15 +70,15 @@ impl Kind {
 }
 
 impl Kind {
-    ghost use Rattle.ps_objects.specs.Object.{cell_of};
+    ghost use Rattle.ps_objects.specs.Object.{cell_named};
 
     /// The cell that the object names, where it is a composite object.
     pub fn cell(&self) -> Option<Cell>
-        ensures { result ≡ cell_of self.now }
+        ensures { result ≡ cell_named self.now }
     {
         match self {
-            Kind::Str { cell, .. } => Some(*cell),
-            Kind::Array { cell, .. } => Some(*cell),
+            Kind::Str(interval) => Some(interval.cell),
+            Kind::Array { interval, .. } => Some(interval.cell),
             Kind::Dict(cell) => Some(*cell),
             _ => None,
         }

@@ -24,7 +24,7 @@ pub enum Number {
 }
 
 /// A part of an array or of a string.
-#[derive(Clone, Copy, Debug, PartialEq, Eq)]
+#[derive(Clone, Copy, Debug, PartialEq, Eq, PartialOrd, Ord)]
 pub struct Interval {
     pub cell: Cell,
     pub start: u32,
@@ -38,13 +38,77 @@ pub struct FileName {
     pub layer: u32,
 }
 
-impl Stack<Object> {
+/// What an operator reads of its operands.
+pub trait Operands {
+    ghost use Rattle.std.specs.Prelude.{List};
+    ghost use Rattle.ps_objects.specs.declared.object.Object.{Object};
     ghost use Rattle.ps_objects.specs.Key.{key_form_at};
 
+    /// The operands, the newest first.
+    ghost objects: { Self → List Object };
+
     /// Whether there are `n` operands: stackunderflow.
-    pub fn need(&self, n: usize) -> Result<(), ErrorName>
-        ensures { result ≡ needed n self.now }
-    {
+    fn need(&self, n: usize) -> Result<(), ErrorName>
+        ensures { result ≡ needed n (objects self.now) };
+
+    /// Whether `n` more stay within the limit: stackoverflow.
+    fn room(&self, n: usize) -> Result<(), ErrorName>
+        requires { n < 2 ^ 32 }
+        ensures { result ≡ room_for n (objects self.now) };
+
+    /// The operand that is `depth` below the newest.
+    fn object(&self, depth: usize) -> Result<&Object, ErrorName>
+        ensures { MatchResult result (λ x. object_at depth (objects self.now) ≡ Ok x.now) (λ e. object_at depth (objects self.now) ≡ Err e) };
+
+    fn integer(&self, depth: usize) -> Result<i32, ErrorName>
+        ensures { result ≡ integer_at depth (objects self.now) };
+
+    fn boolean(&self, depth: usize) -> Result<bool, ErrorName>
+        ensures { result ≡ boolean_at depth (objects self.now) };
+
+    fn number(&self, depth: usize) -> Result<Number, ErrorName>
+        ensures { result ≡ number_at depth (objects self.now) };
+
+    fn dict(&self, depth: usize) -> Result<Cell, ErrorName>
+        ensures { result ≡ dict_at depth (objects self.now) };
+
+    fn array(&self, depth: usize) -> Result<Interval, ErrorName>
+        ensures { result ≡ array_at depth (objects self.now) };
+
+    fn string(&self, depth: usize) -> Result<Interval, ErrorName>
+        ensures { result ≡ string_at depth (objects self.now) };
+
+    /// An executable array.
+    fn procedure(&self, depth: usize) -> Result<Interval, ErrorName>
+        ensures { result ≡ procedure_at depth (objects self.now) };
+
+    fn file(&self, depth: usize) -> Result<FileName, ErrorName>
+        ensures { result ≡ file_at depth (objects self.now) };
+
+    fn save(&self, depth: usize) -> Result<SaveName, ErrorName>
+        ensures { result ≡ save_at depth (objects self.now) };
+
+    /// The key that the operand is. Of a string the access and the bytes are still to be looked at.
+    fn key_form(&self, depth: usize) -> Result<KeyForm, Refusal>
+        ensures { Reads (key_form_at depth (objects self.now)) result };
+
+    /// Whether the operand's access lets it be read: invalidaccess.
+    fn readable(&self, depth: usize) -> Result<(), ErrorName>
+        ensures { result ≡ readable_at depth (objects self.now) };
+
+    /// Whether the operand's access lets it be written: invalidaccess.
+    fn writable(&self, depth: usize) -> Result<(), ErrorName>
+        ensures { result ≡ writable_at depth (objects self.now) };
+
+    /// Whether the operand's access lets it be run: invalidaccess.
+    fn runnable(&self, depth: usize) -> Result<(), ErrorName>
+        ensures { result ≡ runnable_at depth (objects self.now) };
+}
+
+impl Operands for Stack<Object> {
+    ghost objects = { λ stack. stack };
+
+    fn need(&self, n: usize) -> Result<(), ErrorName> {
         if self.len() < n {
             Err(ErrorName::StackUnderflow)
         } else {
@@ -52,11 +116,7 @@ impl Stack<Object> {
         }
     }
 
-    /// Whether `n` more stay within the limit: stackoverflow.
-    pub fn room(&self, n: usize) -> Result<(), ErrorName>
-        requires { n < 2 ^ 32 }
-        ensures { result ≡ room_for n self.now }
-    {
+    fn room(&self, n: usize) -> Result<(), ErrorName> {
         if self.len() <= OPERAND_LIMIT && n <= OPERAND_LIMIT - self.len() {
             Ok(())
         } else {
@@ -64,34 +124,25 @@ impl Stack<Object> {
         }
     }
 
-    /// The operand that is `depth` below the newest.
-    pub fn object(&self, depth: usize) -> Result<&Object, ErrorName>
-        ensures { MatchResult result (λ x. object_at depth self.now ≡ Ok x.now) (λ e. object_at depth self.now ≡ Err e) }
-    {
+    fn object(&self, depth: usize) -> Result<&Object, ErrorName> {
         self.get(depth).ok_or(ErrorName::StackUnderflow)
     }
 
-    pub fn integer(&self, depth: usize) -> Result<i32, ErrorName>
-        ensures { result ≡ integer_at depth self.now }
-    {
+    fn integer(&self, depth: usize) -> Result<i32, ErrorName> {
         match self.object(depth)?.kind {
             Kind::Integer(n) => Ok(n),
             _ => Err(ErrorName::TypeCheck),
         }
     }
 
-    pub fn boolean(&self, depth: usize) -> Result<bool, ErrorName>
-        ensures { result ≡ boolean_at depth self.now }
-    {
+    fn boolean(&self, depth: usize) -> Result<bool, ErrorName> {
         match self.object(depth)?.kind {
             Kind::Boolean(b) => Ok(b),
             _ => Err(ErrorName::TypeCheck),
         }
     }
 
-    pub fn number(&self, depth: usize) -> Result<Number, ErrorName>
-        ensures { result ≡ number_at depth self.now }
-    {
+    fn number(&self, depth: usize) -> Result<Number, ErrorName> {
         match self.object(depth)?.kind {
             Kind::Integer(n) => Ok(Number::Integer(n)),
             Kind::Real(r) => Ok(Number::Real(r)),
@@ -99,63 +150,36 @@ impl Stack<Object> {
         }
     }
 
-    pub fn dict(&self, depth: usize) -> Result<Cell, ErrorName>
-        ensures { result ≡ dict_at depth self.now }
-    {
+    fn dict(&self, depth: usize) -> Result<Cell, ErrorName> {
         match self.object(depth)?.kind {
             Kind::Dict(cell) => Ok(cell),
             _ => Err(ErrorName::TypeCheck),
         }
     }
 
-    pub fn array(&self, depth: usize) -> Result<Interval, ErrorName>
-        ensures { result ≡ array_at depth self.now }
-    {
+    fn array(&self, depth: usize) -> Result<Interval, ErrorName> {
         match self.object(depth)?.kind {
-            Kind::Array {
-                cell,
-                start,
-                len,
-                ..
-            } => Ok(Interval { cell, start, len }),
+            Kind::Array { interval, .. } => Ok(interval),
             _ => Err(ErrorName::TypeCheck),
         }
     }
 
-    pub fn string(&self, depth: usize) -> Result<Interval, ErrorName>
-        ensures { result ≡ string_at depth self.now }
-    {
+    fn string(&self, depth: usize) -> Result<Interval, ErrorName> {
         match self.object(depth)?.kind {
-            Kind::Str { cell, start, len } => Ok(Interval { cell, start, len }),
+            Kind::Str(interval) => Ok(interval),
             _ => Err(ErrorName::TypeCheck),
         }
     }
 
-    /// An executable array.
-    pub fn procedure(&self, depth: usize) -> Result<Interval, ErrorName>
-        ensures { result ≡ procedure_at depth self.now }
-    {
+    fn procedure(&self, depth: usize) -> Result<Interval, ErrorName> {
         let object = self.object(depth)?;
         match object.kind {
-            Kind::Array {
-                cell,
-                start,
-                len,
-                ..
-            } => {
-                if object.exec {
-                    Ok(Interval { cell, start, len })
-                } else {
-                    Err(ErrorName::TypeCheck)
-                }
-            }
+            Kind::Array { interval, .. } if object.exec => Ok(interval),
             _ => Err(ErrorName::TypeCheck),
         }
     }
 
-    pub fn file(&self, depth: usize) -> Result<FileName, ErrorName>
-        ensures { result ≡ file_at depth self.now }
-    {
+    fn file(&self, depth: usize) -> Result<FileName, ErrorName> {
         match self.object(depth)?.kind {
             Kind::File { section } => Ok(FileName { section, layer: 0 }),
             Kind::Filter { section, layer } => Ok(FileName { section, layer }),
@@ -163,53 +187,37 @@ impl Stack<Object> {
         }
     }
 
-    pub fn save(&self, depth: usize) -> Result<SaveName, ErrorName>
-        ensures { result ≡ save_at depth self.now }
-    {
+    fn save(&self, depth: usize) -> Result<SaveName, ErrorName> {
         match self.object(depth)?.kind {
             Kind::Save(save) => Ok(save),
             _ => Err(ErrorName::TypeCheck),
         }
     }
 
-    /// The key that the operand is. Of a string the access and the bytes are still to be looked at.
-    pub fn key_form(&self, depth: usize) -> Result<KeyForm, Refusal>
-        ensures { Reads (key_form_at depth self.now) result }
-    {
+    fn key_form(&self, depth: usize) -> Result<KeyForm, Refusal> {
         self.object(depth)?.kind.key_form()
     }
 
-    /// Whether the operand's access lets it be read: invalidaccess.
-    pub fn readable(&self, depth: usize) -> Result<(), ErrorName>
-        ensures { result ≡ readable_at depth self.now }
-    {
+    fn readable(&self, depth: usize) -> Result<(), ErrorName> {
         self.object(depth)?.access.readable()
     }
 
-    /// Whether the operand's access lets it be written: invalidaccess.
-    pub fn writable(&self, depth: usize) -> Result<(), ErrorName>
-        ensures { result ≡ writable_at depth self.now }
-    {
+    fn writable(&self, depth: usize) -> Result<(), ErrorName> {
         self.object(depth)?.access.writable()
     }
 
-    /// Whether the operand's access lets it be run: invalidaccess.
-    pub fn runnable(&self, depth: usize) -> Result<(), ErrorName>
-        ensures { result ≡ runnable_at depth self.now }
-    {
+    fn runnable(&self, depth: usize) -> Result<(), ErrorName> {
         self.object(depth)?.access.runnable()
     }
 }
 
-impl Stack<Cell> {
-    /// Whether one more stays within the limit: dictstackoverflow.
-    pub fn dict_room(&self) -> Result<(), ErrorName>
-        ensures { result ≡ dict_room self.now }
-    {
-        if self.len() < DICT_STACK_LIMIT {
-            Ok(())
-        } else {
-            Err(ErrorName::DictStackOverflow)
-        }
+/// Whether one more dictionary stays within the limit: dictstackoverflow.
+pub fn dict_room(dicts: &DictStack) -> Result<(), ErrorName>
+    ensures { result ≡ dict_room dicts.now }
+{
+    if dicts.len() < DICT_STACK_LIMIT {
+        Ok(())
+    } else {
+        Err(ErrorName::DictStackOverflow)
     }
 }

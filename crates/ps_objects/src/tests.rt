@@ -22,18 +22,16 @@ const CELL: Cell = Cell {
 #[test]
 fn copies_are_equal(rt: HostRuntime) -> Result<(), Fail> {
     let array = Kind::Array {
-        cell: CELL,
-        start: 1,
-        len: 3,
+        interval: Interval {
+            cell: CELL,
+            start: 1,
+            len: 3,
+        },
         packed: true,
     };
     let object = literal(array);
     assert!(rt; object.copy()? == object);
     assert!(rt; object.kind.cell() == Some(CELL));
-    let mut text = Text::from_bytes(rt.alloc(), b"PostScript")?;
-    text.push(b' ')?;
-    text.extend(b"Level 2")?;
-    assert!(rt; text.copy()?.as_slice() == b"PostScript Level 2".as_slice());
     let mut keys = Keys::new(rt.alloc());
     keys.push(Key::Name(name(&rt, b"a name of more than sixteen bytes")?))?;
     keys.push(Key::Mark)?;
@@ -68,9 +66,11 @@ fn keys_are_in_their_order(rt: HostRuntime) -> Result<(), Fail> {
     keys.push(Key::Operator(Op::default_entry(ErrorName::Undefined)))?;
     keys.push(Key::Dict(CELL))?;
     keys.push(Key::Array {
-        cell: CELL,
-        start: 0,
-        len: 9,
+        interval: Interval {
+            cell: CELL,
+            start: 0,
+            len: 9,
+        },
         packed: false,
     })?;
     keys.push(Key::File {
@@ -93,26 +93,16 @@ fn keys_are_in_their_order(rt: HostRuntime) -> Result<(), Fail> {
 }
 
 #[test]
-fn operators_have_names(rt: HostRuntime) -> Result<(), Fail> {
-    let add = Op::from_index(12).ok_or("no operator")?;
-    assert!(rt; op_name(add) == b"add".as_slice());
-    let last = Op::default_entry(ErrorName::VmError);
-    assert!(rt; op_name(last) == ErrorName::VmError.as_bytes());
-    assert!(rt; Op::from_index(OPERATOR_COUNT).is_none());
+fn operands_are_read(rt: HostRuntime) -> Result<(), Fail> {
     let mut operands = Objects::new(rt.alloc());
     for n in 0..4 {
         operands.push(literal(Kind::Integer(n)))?;
     }
-    assert!(rt; operands.len() == 4);
-    operands.roll(3, 1);
-    assert!(rt; operands.integer(0) == Ok(2));
-    assert!(rt; operands.len() == 4);
-    operands.exchange();
-    assert!(rt; operands.integer(1) == Ok(2));
-    assert!(rt; operands.len() == 4);
-    operands.shrink(3);
-    assert!(rt; operands.need(2) == Err(ErrorName::StackUnderflow));
-    assert!(rt; operands.pop().is_some());
-    assert!(rt; operands.is_empty());
+    assert!(rt; operands.integer(0) == Ok(3));
+    assert!(rt; operands.boolean(1) == Err(ErrorName::TypeCheck));
+    assert!(rt; operands.need(5) == Err(ErrorName::StackUnderflow));
+    assert!(rt; operands.room(4996) == Ok(()));
+    assert!(rt; operands.room(4997) == Err(ErrorName::StackOverflow));
+    assert!(rt; dict_room(&DictStack::new(rt.alloc())) == Ok(()));
     Ok(())
 }

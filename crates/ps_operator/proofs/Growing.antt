@@ -5,8 +5,8 @@ use Rattle.std.specs.Ordering.{nat_cmp, is_gt, ordering_then}
 use Rattle.std.specs.List.{AllByRecursion}
 use Rattle.ps_objects.specs.declared.cell.Cell.{Cell}
 use Rattle.ps_objects.specs.declared.cell.SaveName.{SaveName}
-use Rattle.ps_objects.specs.declared.error_name.ErrorName.{ErrorName}
-use Rattle.ps_objects.specs.declared.error_name.ErrorName.TheVariants.{InvalidAccess, VmError}
+use Rattle.ps_names.specs.declared.error_name.ErrorName.{ErrorName}
+use Rattle.ps_names.specs.declared.error_name.ErrorName.TheVariants.{InvalidAccess, VmError}
 use Rattle.ps_objects.specs.declared.key.Key.{Key}
 use Rattle.ps_objects.specs.declared.object.Object.{Object}
 use Rattle.ps_objects.specs.declared.key.Key.TheVariants as key
@@ -16,8 +16,8 @@ use Rattle.ps_objects.specs.declared.place.Loc.TheVariants as loc
 use Rattle.ps_objects.specs.declared.place.Value.TheVariants as value
 use Rattle.ps_objects.specs.declared.place.Shape.{Shape}
 use Rattle.ps_objects.specs.declared.place.Shape.TheVariants as shape
-use Rattle.ps_objects.specs.Key.{key_cell}
-use Rattle.ps_objects.specs.Object.{cell_of}
+use Rattle.ps_objects.specs.Key.{cell_of_key}
+use Rattle.ps_objects.specs.Object.{cell_named}
 use Rattle.ps_kinds.specs.declared.frame.Frame.{Frame}
 use Rattle.ps_kinds.specs.declared.frame.Frame.TheVariants as frame
 use Rattle.ps_kinds.specs.declared.frame.Pair.{Pair}
@@ -32,7 +32,7 @@ use Rattle.ps_memory.specs.Memory.{is_global, newer, entry, item, is}
 use Rattle.ps_memory.specs.Ownership.{same_cell}
 use Rattle.ps_memory.specs.Tree.{done, puts, makes}
 use Rattle.ps_memory.proofs.Order.{cell_is, cell_itself}
-use Rattle.ps_meaning.specs.Fits.{Shapes, FitsCell, takes, cell_named, cell_of_key, key_is_shared, value_is_shared, is_system_dict, FitsObject, FitsKey, IsDict}
+use Rattle.ps_meaning.specs.Fits.{Shapes, FitsCell, takes, key_is_shared, value_is_shared, is_system_dict, FitsObject, FitsKey, IsDict}
 use Rattle.ps_meaning.specs.Sound.{World, without_newer, with_cell, made}
 use Rattle.ps_meaning.specs.Registers.{FitsState, FitsLayers, SoundMarks, SoundRegisters}
 use Rattle.ps_meaning.proofs.Fits.{found_stays}
@@ -167,35 +167,6 @@ room_kept s n e = room_by (unit_budget s.kind) (s.units + n) (nat_lt (unit_budge
 
 -- ---- what may be stored where
 
-same_key_cell : (j : Key) → key_cell j ≡ cell_of_key j
-same_key_cell (key.Dict c) = refl
-same_key_cell (key.Array c a b p) = refl
-same_key_cell (key.Name n) = refl
-same_key_cell (key.Integer n) = refl
-same_key_cell (key.Real r) = refl
-same_key_cell (key.Boolean b) = refl
-same_key_cell (key.Operator n) = refl
-same_key_cell (key.File a b) = refl
-same_key_cell (key.Save q) = refl
-same_key_cell (key.FontId c) = refl
-same_key_cell key.Mark = refl
-
-pub same_cell_named : (k : Kind) → cell_of k ≡ cell_named k
-same_cell_named (kind.Str c a b) = refl
-same_cell_named (kind.Array c a b p) = refl
-same_cell_named (kind.Dict c) = refl
-same_cell_named (kind.Name n) = refl
-same_cell_named (kind.Integer n) = refl
-same_cell_named (kind.Real r) = refl
-same_cell_named (kind.Boolean b) = refl
-same_cell_named (kind.Operator n) = refl
-same_cell_named (kind.File a) = refl
-same_cell_named (kind.Filter a b) = refl
-same_cell_named (kind.Save q) = refl
-same_cell_named (kind.FontId c) = refl
-same_cell_named kind.Null = refl
-same_cell_named kind.Mark = refl
-
 barred_by : (b g l m : Bool) → cond {A = Result (Unit {0}) ErrorName} (b || (g && (l || m))) (Err InvalidAccess) (Ok tt) ≡ Ok tt → g ≡ true → (l ≡ false) × (m ≡ false)
 barred_by true g l m e h = cc
 barred_by false false l m e h = cc
@@ -245,15 +216,15 @@ module _ (text : List ℕ) (s : State) (W : World) (f : Fits text W s) where
 
 -- a store of an entry, and some more units
 pub entry_stored_keeps : {text : List ℕ} {s : State} {W : World} → Fits text W s → (d : Cell) (j : Key) (x : Object) (xs : List Object) (n : ℕ) → HasDict W.shapes d → FitsKey W.shapes j → FitsObject W.shapes x
-    → storable_entry d (key_cell j) x.kind ≡ Ok tt → Fit W.shapes xs → unit_room s.kind s.units n ≡ Ok tt
+    → storable_entry d (cell_of_key j) x.kind ≡ Ok tt → Fit W.shapes xs → unit_room s.kind s.units n ≡ Ok tt
     → Keeps text 4 s.frames (done (puts (loc.Entry d j) (value.Object x) ∷ []) (quiet (spent (with_ops s xs) n))) s W
 entry_stored_keeps {text = text} {s = s} {W = W} f d j x xs n hd hj hx e h u = record { lawful = (hd.stands, refl, (hj, hx), shared, stored_leaves text s W f xs n h (room_kept s n u)) }
   where
     shared : is_global d ≡ true → (key_is_shared (cell_of_key j) ≡ true) × (value_is_shared d (cell_named x.kind) ≡ true)
     shared g =
-        let b = barred_by (is_barred d) (is_global d) (is_local (key_cell j)) (is_local (cell_of x.kind)) e g in (
-          subst (λ o. key_is_shared o ≡ true) (same_key_cell j) (not_local (key_cell j) b.0),
-          shared_value d (cell_named x.kind) (subst (λ o. key_is_shared o ≡ true) (same_cell_named x.kind) (not_local (cell_of x.kind) b.1)),
+        let b = barred_by (is_barred d) (is_global d) (is_local (cell_of_key j)) (is_local (cell_named x.kind)) e g in (
+          not_local (cell_of_key j) b.0,
+          shared_value d (cell_named x.kind) (not_local (cell_named x.kind) b.1),
         )
 
 -- the next cell, and some more units

@@ -3,7 +3,7 @@ use Rattle.std.proofs.Common.{◌≡◌, ℕ, zero, suc, ◌+◌, ◌<◌, ◌�
 use Rattle.std.specs.List.{AllByRecursion}
 use Rattle.ps_objects.specs.declared.access.Access.{Access}
 use Rattle.ps_objects.specs.declared.cell.Cell.{Cell}
-use Rattle.ps_objects.specs.declared.error_name.ErrorName.{ErrorName}
+use Rattle.ps_names.specs.declared.error_name.ErrorName.{ErrorName}
 use Rattle.ps_objects.specs.declared.key.Key.{Key}
 use Rattle.ps_objects.specs.declared.key.Key.TheVariants as key
 use Rattle.ps_objects.specs.declared.key.KeyForm.{KeyForm}
@@ -14,7 +14,7 @@ use Rattle.ps_objects.specs.declared.place.Loc.TheVariants as loc
 use Rattle.ps_objects.specs.declared.place.Value.{Value}
 use Rattle.ps_objects.specs.declared.place.Value.TheVariants as value
 use Rattle.ps_objects.specs.declared.place.Shape.TheVariants as shape
-use Rattle.ps_objects.specs.Key.{key_cell}
+use Rattle.ps_objects.specs.Key.{cell_of_key}
 use Rattle.ps_kinds.specs.declared.act.Act.{Act}
 use Rattle.ps_kinds.specs.declared.frame.Frame.{Frame}
 use Rattle.ps_kinds.specs.declared.state.State.{State}
@@ -195,7 +195,7 @@ module _ (W : World) where
   -- a key that fits, and names what its operand names
   pub record IsKeyOf (fm : KeyForm) (k : Key) : Type 0 where
     pub fits : FitsKey W.shapes k
-    pub cell : key_cell k ≡ form_cell fm
+    pub cell : cell_of_key k ≡ form_cell fm
 
   key_looked : (fm : KeyForm) → FitsKeyForm W.shapes fm → Looks (key_of fm) W (IsKeyOf fm)
   key_looked (form.Key k) h = record { fits = h; cell = refl }

@@ -67,7 +67,7 @@ module _ (W : World) (n : ℕ) (h : IsAhead W n) where
   all_later s p q (r ∷ rs) k = (above s.section s.count n r (subst (λ m. n ≤ m) (sym q) (omega arith)) (subst (λ m. IsMadeBefore m n r) (sym p) k.0), all_later s p q rs k.1)
 
   pub next_save : (s : SaveName) → s.section ≡ W.section → s.count ≡ n → IsNewSave s W
-  next_save s p q = (λ c e. go c (above_means c.section c.count s.section s.count (second_so (not (is_global c)) (is_gt (ordering_then (nat_cmp c.section s.section) (nat_cmp c.count s.count))) e)), all_later s p q W.saves h.saves, subst (λ m. 1 ≤ m) (sym p) h.section)
+  next_save s p q = (p, λ c e. go c (above_means c.section c.count s.section s.count (second_so (not (is_global c)) (is_gt (ordering_then (nat_cmp c.section s.section) (nat_cmp c.count s.count))) e)), all_later s p q W.saves h.saves, subst (λ m. 1 ≤ m) (sym p) h.section)
     where
       go : (c : Cell) → ((s.section < c.section) ⊎ ((c.section ≡ s.section) × (s.count < c.count))) → W.shapes c ≡ None
       go c (inl l) = h.later c (subst (λ m. m < c.section) p l)

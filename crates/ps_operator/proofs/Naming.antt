@@ -10,7 +10,7 @@ use Rattle.ps_memory.specs.Memory.{is_global, newer, Cells, Memory, shape_at}
 use Rattle.ps_memory.specs.Frame.{later, IsNewest}
 use Rattle.ps_meaning.specs.Registers.{world_of}
 use Rattle.ps_meaning.proofs.Memory.{no_string}
-use Rattle.ps_operator.specs.Standing.{IsFree, IsFreeSave}
+use Rattle.vm_mem.specs.Conditions.{MayMake, MayOpen}
 use Rattle.ps_meaning.specs.Ready.{IsMadeBefore, Ready}
 use Rattle.ps_operator.specs.Making.{cell_named, next_cell, cell_after, next_save}
 use Rattle.ps_operator.proofs.Standing.{page_stands}
@@ -40,14 +40,14 @@ all_later section n [] h = tt
 all_later section n (k ∷ kept) h = (above section n n k.0 (omega arith) h.0, all_later section n kept h.1)
 
 module _ (s : State) (M : Memory) (r : Ready s M) where
-  free_from : (count : ℕ) (global : Bool) → s.count ≤ count → IsFree M (cell_named s.section count global)
-  unfolding IsFree
-  free_from count global l = (page_stands s M r, λ sh. (λ d e f. r.state.ahead.here d e (subst (λ n. s.count ≤ n) (sym f) l), λ g. all_newer (cell_named s.section count global) s.count g l M.kept r.state.ahead.saves))
+  free_from : (count : ℕ) (global : Bool) → s.count ≤ count → MayMake M (cell_named s.section count global)
+  unfolding MayMake
+  free_from count global l = (page_stands s M r, λ d e f. r.state.ahead.here d e (subst (λ n. s.count ≤ n) (sym f) l), λ g. all_newer (cell_named s.section count global) s.count g l M.kept r.state.ahead.saves)
 
-  pub next_free : IsFree M (next_cell s)
+  pub next_free : MayMake M (next_cell s)
   next_free = free_from s.count s.regs.global (omega arith)
 
-  pub after_free : (n : ℕ) → IsFree M (cell_after s n)
+  pub after_free : (n : ℕ) → MayMake M (cell_after s n)
   after_free n = free_from (s.count + n) s.regs.global (omega arith)
 
   none_newer : IsNewest M (next_save s)
@@ -60,6 +60,6 @@ module _ (s : State) (M : Memory) (r : Ready s M) where
       none : shape_at M c ≡ None
       none = go (above_means c.section c.count s.section s.count (second_so (not (is_global c)) (is_gt (ordering_then (nat_cmp c.section s.section) (nat_cmp c.count s.count))) h))
 
-  pub save_free : IsFreeSave M (next_save s)
-  unfolding IsFreeSave
+  pub save_free : MayOpen M (next_save s)
+  unfolding MayOpen
   save_free = (page_stands s M r, (none_newer, all_later s.section s.count M.kept r.state.ahead.saves))

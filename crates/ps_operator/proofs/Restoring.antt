@@ -2,29 +2,15 @@
 use Rattle.std.proofs.Common.{◌≡◌, true, map, Option, Some, None, sym, ◌∙◌, subst}
 use Rattle.ps_objects.specs.declared.cell.SaveName.{SaveName}
 use Rattle.ps_memory.specs.Memory.{Memory, Cells, copy_named, put_back, restore}
-use Rattle.ps_memory.specs.Frame.{Allowed}
 use Rattle.ps_kinds.specs.declared.state.State.{State}
 use Rattle.ps_meaning.specs.Sound.{has_name}
 use Rattle.ps_meaning.specs.Registers.{world_of}
 use Rattle.ps_meaning.specs.Answer.{Log, acted_in}
 use Rattle.ps_meaning.proofs.Memory.{opened_in}
 use Rattle.ps_meaning.proofs.Fits.{apart}
-use Rattle.vm_mem.specs.Conditions.{is_here}
-use Rattle.ps_operator.specs.Standing.{page_is_here, IsOpenSave}
+use Rattle.vm_mem.specs.Conditions.{is_here, page_is_here, MayRestore}
 use Rattle.ps_meaning.specs.Ready.{Ready}
 use Rattle.ps_operator.proofs.Standing.{page_stands}
-
-pub open_allowed : (M : Memory) (q : SaveName) → IsOpenSave M q → Allowed (restore q) M
-unfolding IsOpenSave
-open_allowed M q h = h.1
-
-pub open_page : (M : Memory) (q : SaveName) → IsOpenSave M q → is_here M.page ≡ true
-unfolding IsOpenSave page_is_here
-open_page M q h = h.0
-
-pub wipe_here : (M : Memory) → page_is_here M ≡ true → is_here M.page ≡ true
-unfolding page_is_here
-wipe_here M h = h
 
 back_page : (q : SaveName) (o : Option Cells) (M : Memory) → page_is_here M ≡ true → page_is_here (put_back q o M) ≡ true
 unfolding page_is_here
@@ -35,8 +21,8 @@ pub restored_page : (old new : Log) (q : SaveName) → new ≡ acted_in old (res
 restored_page old new q e h = subst (λ (log : Log). page_is_here log.view ≡ true) (sym e) (back_page q (copy_named q old.view.kept) old.view h)
 
 module _ (s : State) (M : Memory) (r : Ready s M) where
-  pub named_open : (q : SaveName) → has_name q (map (λ k. k.0) M.kept) ≡ true → IsOpenSave M q
-  unfolding IsOpenSave
+  pub named_open : (q : SaveName) → has_name q (map (λ k. k.0) M.kept) ≡ true → MayRestore M q
+  unfolding MayRestore
   named_open q h =
       let o = opened_in (world_of s.section M).shapes q (map (λ k. k.0) M.kept) M.kept h r.memory.kept in
       (page_stands s M r, λ e. apart o.copy (sym o.is_copy ∙ e))

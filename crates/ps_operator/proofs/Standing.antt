@@ -2,8 +2,9 @@
 use Rattle.std.proofs.Common.{◌≡◌, ℕ, zero, suc, Bool, true, false, ◌&&◌, List, [], ◌∷◌, Option, Some, Result, Ok, length, refl, sym, ap, ◌∙◌, subst, true≢false}
 use Rattle.std.specs.List.{AllByRecursion}
 use Rattle.std.specs.FinMap.{get}
+use Rattle.ps_objects.specs.Object.{cell_named}
 use Rattle.ps_objects.specs.declared.cell.Cell.{Cell}
-use Rattle.ps_objects.specs.declared.error_name.ErrorName.{ErrorName}
+use Rattle.ps_names.specs.declared.error_name.ErrorName.{ErrorName}
 use Rattle.ps_objects.specs.declared.key.Key.{Key}
 use Rattle.ps_objects.specs.declared.key.Key.TheVariants as key
 use Rattle.ps_objects.specs.declared.key.KeyForm.{KeyForm}
@@ -19,11 +20,11 @@ use Rattle.ps_objects.specs.Operands.{object_at, operand, typed, dict_of, dict_a
 use Rattle.ps_kinds.specs.declared.state.State.{State}
 use Rattle.ps_objects.specs.declared.place.Value.TheVariants as value
 use Rattle.ps_memory.specs.Memory.{Memory, rand, is_kind, shape_at}
-use Rattle.ps_meaning.specs.Fits.{cell_named, takes, lies_within, FitsCell, FitsObject, IsDict}
+use Rattle.ps_meaning.specs.Fits.{takes, lies_within, FitsCell, FitsObject, IsDict}
 use Rattle.ps_meaning.specs.Sound.{StringFits}
 use Rattle.ps_meaning.specs.Registers.{user_dict}
-use Rattle.vm_mem.specs.Conditions.{is_here}
-use Rattle.ps_operator.specs.Standing.{page_is_here, is_dict_shape, has_items, has_bytes, is_dict, is_array, is_string, is_named, is_form, are_dicts, rand_stands}
+use Rattle.vm_mem.specs.Conditions.{is_here, page_is_here}
+use Rattle.ps_operator.specs.Standing.{is_dict_shape, has_items, has_bytes, is_dict, is_array, is_string, is_named, is_form, are_dicts, rand_stands}
 use Rattle.ps_meaning.specs.Ready.{Ready}
 use Rattle.ps_operator.specs.Registers.{current}
 
@@ -56,7 +57,7 @@ module _ (s : State) (M : Memory) (r : Ready s M) where
   unfolding is_dict
   dict_here d h = both (page_is_here M) (is_dict_shape (shape_at M d)) page_stands (ap is_dict_shape h.1)
 
-  items_here : (a : Interval) (sh : Shape) (packed : Bool) → shape_at M a.cell ≡ Some sh → takes (kind.Array a.cell a.start a.len packed) sh ≡ true → is_array M a ≡ true
+  items_here : (a : Interval) (sh : Shape) (packed : Bool) → shape_at M a.cell ≡ Some sh → takes (kind.Array a packed) sh ≡ true → is_array M a ≡ true
   unfolding is_array
   items_here a (shape.Array n) packed e h = both (page_is_here M) (has_items a.start a.len (shape_at M a.cell)) page_stands (ap (has_items a.start a.len) e ∙ h)
   items_here a (shape.Str n) packed e h = absurd (true≢false (sym h))
@@ -65,7 +66,7 @@ module _ (s : State) (M : Memory) (r : Ready s M) where
   bytes_there : (start len n : ℕ) (o : Option (List ℕ)) → StringFits (Some (shape.Str n)) o → lies_within start len n ≡ true → has_bytes start len (Some (shape.Str n)) o ≡ true
   bytes_there start len n o f h = ap (has_bytes start len (Some (shape.Str n))) f.1 ∙ both (lies_within start len n) (lies_within start len (length f.0)) h (subst (λ m. lies_within start len m ≡ true) (sym f.2) h)
 
-  bytes_here : (a : Interval) (sh : Shape) → shape_at M a.cell ≡ Some sh → takes (kind.Str a.cell a.start a.len) sh ≡ true → is_string M a ≡ true
+  bytes_here : (a : Interval) (sh : Shape) → shape_at M a.cell ≡ Some sh → takes (kind.Str a) sh ≡ true → is_string M a ≡ true
   unfolding is_string
   bytes_here a (shape.Str n) e h =
       both (page_is_here M) (has_bytes a.start a.len (shape_at M a.cell) (get M.strings a.cell)) page_stands
@@ -79,8 +80,8 @@ module _ (s : State) (M : Memory) (r : Ready s M) where
   dict_fits c (shape.Str n) e h = absurd (true≢false (sym h))
 
   pub named : (k : Kind) → FitsCell (shape_at M) (cell_named k) (takes k) → is_named M k ≡ true
-  named (kind.Str c start len) f = bytes_here (record { cell = c; start = start; len = len }) f.0 f.1 f.2
-  named (kind.Array c start len packed) f = items_here (record { cell = c; start = start; len = len }) f.0 packed f.1 f.2
+  named (kind.Str part) f = bytes_here part f.0 f.1 f.2
+  named (kind.Array part packed) f = items_here part f.0 packed f.1 f.2
   named (kind.Dict c) f = dict_fits c f.0 f.1 f.2
   named _ f = page_stands
 
@@ -99,11 +100,11 @@ module _ (s : State) (M : Memory) (r : Ready s M) where
   dict_is _ d h e = cc
 
   array_is : (k : Kind) (a : Interval) → is_named M k ≡ true → array_of k ≡ Ok a → is_array M a ≡ true
-  array_is (kind.Array c start len packed) a h e = let p : record { cell = c; start = start; len = len } ≡ a = cc in subst (λ a. is_array M a ≡ true) p h
+  array_is (kind.Array part packed) a h e = let p : part ≡ a = cc in subst (λ a. is_array M a ≡ true) p h
   array_is _ a h e = cc
 
   string_is : (k : Kind) (a : Interval) → is_named M k ≡ true → string_of k ≡ Ok a → is_string M a ≡ true
-  string_is (kind.Str c start len) a h e = let p : record { cell = c; start = start; len = len } ≡ a = cc in subst (λ a. is_string M a ≡ true) p h
+  string_is (kind.Str part) a h e = let p : part ≡ a = cc in subst (λ a. is_string M a ≡ true) p h
   string_is _ a h e = cc
 
   procedure_is : (x : Object) (exec : Bool) (a : Interval) → is_named M x.kind ≡ true → procedure_of (record x { exec = exec }) ≡ Ok a → is_array M a ≡ true
@@ -114,7 +115,7 @@ module _ (s : State) (M : Memory) (r : Ready s M) where
   key_is j f p = subst (λ f. is_form M f ≡ true) p page_stands
 
   form_is : (k : Kind) (f : KeyForm) → is_named M k ≡ true → key_form_of k ≡ Ok f → is_form M f ≡ true
-  form_is (kind.Str c start len) f h e = let p : form.Text (record { cell = c; start = start; len = len }) ≡ f = cc in subst (λ f. is_form M f ≡ true) p h
+  form_is (kind.Str part) f h e = let p : form.Text part ≡ f = cc in subst (λ f. is_form M f ≡ true) p h
   form_is (kind.Integer n) f h e = key_is (key.Integer n) f cc
   form_is (kind.Real x) f h e = key_is (real_key x) f cc
   form_is (kind.Boolean b) f h e = key_is (key.Boolean b) f cc
@@ -122,7 +123,7 @@ module _ (s : State) (M : Memory) (r : Ready s M) where
   form_is kind.Mark f h e = key_is key.Mark f cc
   form_is (kind.Name n) f h e = key_is (key.Name n) f cc
   form_is (kind.Operator n) f h e = key_is (key.Operator n) f cc
-  form_is (kind.Array c start len packed) f h e = key_is (key.Array c start len packed) f cc
+  form_is (kind.Array part packed) f h e = key_is (key.Array part packed) f cc
   form_is (kind.Dict c) f h e = key_is (key.Dict c) f cc
   form_is (kind.File n) f h e = key_is (key.File n 0) f cc
   form_is (kind.Filter n m) f h e = key_is (key.File n m) f cc

@@ -1,12 +1,13 @@
--- Refusals by budgets and rights.
+-- Refusals by limits, budgets and rights.
 use Rattle.std.specs.Prelude.{ℕ, ◌+◌, Bool, false, not, ◌&&◌, ◌||◌, nat_lt, nat_eq, List, length, if◌then◌else◌, Option, Some, None, Result, Ok, Err}
 use Rattle.ps_objects.specs.declared.cell.Cell.{Cell}
-use Rattle.ps_objects.specs.declared.error_name.ErrorName.{ErrorName}
-use Rattle.ps_objects.specs.declared.error_name.ErrorName.TheVariants.{ExecStackOverflow, InvalidAccess, LimitCheck, VmError}
+use Rattle.ps_names.specs.declared.error_name.ErrorName.{ErrorName}
+use Rattle.ps_names.specs.declared.error_name.ErrorName.TheVariants.{ExecStackOverflow, InvalidAccess, LimitCheck, VmError}
 use Rattle.ps_objects.specs.declared.object.Kind.{Kind}
 use Rattle.ps_objects.specs.declared.section.SectionKind.{SectionKind}
 use Rattle.ps_kinds.specs.declared.frame.Frame.{Frame}
-use Rattle.ps_objects.specs.Object.{cell_of}
+use Rattle.ps_kinds.specs.declared.graphics.Layer.{Layer}
+use Rattle.ps_objects.specs.Object.{cell_named}
 use Rattle.ps_memory.specs.Memory.{is_global}
 use Rattle.ps_meaning.specs.Budgets.{unit_budget, message_budget, show_budget}
 
@@ -22,8 +23,17 @@ message_room kind said n = if nat_lt (message_budget kind) (said + n) then Err L
 abbrev pub show_room : SectionKind → ℕ → Result (Unit {0}) ErrorName
 show_room kind shows = if nat_lt shows (show_budget kind) then Ok tt else Err LimitCheck
 
+-- n more frames
+abbrev pub frames_room : ℕ → List Frame → Result (Unit {0}) ErrorName
+frames_room n frames = if nat_lt 1000 (length frames + n) then Err ExecStackOverflow else Ok tt
+
+-- one more graphics state
+abbrev pub layer_room : List Layer → Result (Unit {0}) ErrorName
+layer_room layers = if nat_lt (length layers) 64 then Ok tt else Err LimitCheck
+
 -- ---- what may be stored where
 
+-- a cell that a global one may not name
 abbrev pub is_local : Option Cell → Bool
 is_local None = false
 is_local (Some c) = not (is_global c)
@@ -34,12 +44,9 @@ is_barred c = nat_eq c.section 0 && (nat_eq c.count 0 || nat_eq c.count 6 || nat
 
 -- an object in a cell: no local one in a global cell
 abbrev pub storable : Cell → Kind → Result (Unit {0}) ErrorName
-storable c k = if is_global c && is_local (cell_of k) then Err InvalidAccess else Ok tt
+storable c k = if is_global c && is_local (cell_named k) then Err InvalidAccess else Ok tt
 
 -- an object under a key in a dictionary
 abbrev pub storable_entry : Cell → Option Cell → Kind → Result (Unit {0}) ErrorName
-storable_entry d key k = if is_barred d || (is_global d && (is_local key || is_local (cell_of k))) then Err InvalidAccess else Ok tt
-
--- n more frames
-abbrev pub frames_room : ℕ → List Frame → Result (Unit {0}) ErrorName
-frames_room n frames = if nat_lt 1000 (length frames + n) then Err ExecStackOverflow else Ok tt
+storable_entry d key k =
+    if is_barred d || (is_global d && (is_local key || is_local (cell_named k))) then Err InvalidAccess else Ok tt

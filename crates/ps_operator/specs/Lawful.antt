@@ -2,7 +2,7 @@
 -- what fits, takes the next names, and leaves a state that fits.
 use Rattle.std.specs.Prelude.{◌≡◌, ◌≢◌, ℕ, ◌+◌, ◌≤◌, true, List, [], ◌∷◌, ◌++◌, Option, Some, None, Result, Ok, Err, ⊤}
 use Rattle.ps_objects.specs.declared.cell.Cell.{Cell}
-use Rattle.ps_objects.specs.declared.error_name.ErrorName.{ErrorName}
+use Rattle.ps_names.specs.declared.error_name.ErrorName.{ErrorName}
 use Rattle.ps_objects.specs.declared.key.KeyForm.{KeyForm}
 use Rattle.ps_objects.specs.declared.key.KeyForm.TheVariants as form
 use Rattle.ps_objects.specs.declared.object.Object.{Object}

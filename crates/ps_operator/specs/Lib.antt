@@ -1,4 +1,5 @@
 pub mod Tree
+pub mod Owes
 pub mod Standing
 pub mod Looks
 pub mod Registers
@@ -8,3 +9,6 @@ pub mod Making
 pub mod Numbers
 pub mod Lawful
 pub mod Storing
+pub mod Marks
+pub mod Copies
+pub mod Operators

@@ -1,23 +1,10 @@
-//! Small parts of operators: objects, rooms and rights.
+//! Room within limits and budgets, and what may be stored where.
 ghost use Rattle.std.specs.Prelude.{◌≡◌};
-ghost use Rattle.ps_operator.specs.Registers.{plain, current};
-ghost use Rattle.ps_meaning.specs.Budgets.{unit_budget};
+ghost use Rattle.ps_operator.specs.Registers.{current};
+ghost use Rattle.ps_meaning.specs.Budgets.{unit_budget, message_budget, show_budget};
 ghost use Rattle.ps_operator.specs.Budgets as spec;
 
-use ps_kinds::{
-    Access, Cell, DictStack, ErrorName, FRAME_LIMIT, Frames, Kind, Object, SectionKind, Space,
-};
-
-/// A literal object.
-pub fn plain(kind: Kind) -> Object
-    ensures { result ≡ plain kind }
-{
-    Object {
-        kind,
-        exec: false,
-        access: Access::Unlimited,
-    }
-}
+use ps_kinds::{Cell, DictStack, ErrorName, FRAME_LIMIT, Frames, GStack, Kind, SectionKind, Space};
 
 /// The dictionary in which is defined.
 pub fn current(dicts: &DictStack) -> Cell
@@ -51,6 +38,61 @@ pub fn unit_room(kind: SectionKind, units: u64, n: u64) -> Result<(), ErrorName>
         Ok(())
     } else {
         Err(ErrorName::VmError)
+    }
+}
+
+fn message_budget(kind: SectionKind) -> u64
+    ensures { result ≡ message_budget kind }
+{
+    match kind {
+        SectionKind::Page => 1_048_576,
+        SectionKind::Prolog | SectionKind::Setup | SectionKind::Trailer => 16_777_216,
+    }
+}
+
+/// Whether `n` more bytes of messages stay within the budget: limitcheck.
+pub fn message_room(kind: SectionKind, said: u64, n: u64) -> Result<(), ErrorName>
+    ensures { result ≡ spec.message_room kind said n }
+{
+    let budget = message_budget(kind);
+    if said <= budget && n <= budget - said {
+        Ok(())
+    } else {
+        Err(ErrorName::LimitCheck)
+    }
+}
+
+fn show_budget(kind: SectionKind) -> u32
+    ensures { result ≡ show_budget kind }
+{
+    match kind {
+        SectionKind::Page => 8,
+        SectionKind::Prolog | SectionKind::Setup | SectionKind::Trailer => 4096,
+    }
+}
+
+/// Whether one more page stays within the budget: limitcheck.
+pub fn show_room(kind: SectionKind, shows: u32) -> Result<(), ErrorName>
+    ensures { result ≡ spec.show_room kind shows }
+{
+    if shows < show_budget(kind) {
+        Ok(())
+    } else {
+        Err(ErrorName::LimitCheck)
+    }
+}
+
+/// The most graphics states on their stack.
+pub const LAYER_LIMIT: usize = 64;
+
+/// Whether one more graphics state stays within the limit: limitcheck.
+pub fn layer_room(layers: &GStack) -> Result<(), ErrorName>
+    ensures { result ≡ spec.layer_room layers.now }
+{
+    if layers.len() < LAYER_LIMIT {
+        Ok(())
+    } else {
+        Err(ErrorName::LimitCheck)
     }
 }
 

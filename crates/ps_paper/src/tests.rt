@@ -2,7 +2,8 @@ ghost use Rattle.std.specs.Prelude.{IfOk};
 ghost use Rattle.ps_shapes.specs.Span.{IsOnPaper};
 
 use crate::paint;
-use ps_shapes::{NoMemory, Paper, Real, Span, Spans, SpansList, Thresholds};
+use copy_lists::NoMemory;
+use ps_shapes::{Paper, Real, Span, Spans, SpansList, Thresholds};
 use std::alloc::Global;
 use std::test::Fail;
 

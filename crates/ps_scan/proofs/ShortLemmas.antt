@@ -3,7 +3,7 @@ use Rattle.std.proofs.Common.{◌≡◌, ℕ, ◌+◌, ◌≤◌, ℤ, Bool, tru
 use Rattle.std.specs.Bool.{⊤}
 use Rattle.std.specs.List.{prefix_len, before_first}
 use Rattle.ps_objects.specs.declared.Real.{Real}
-use Rattle.ps_objects.specs.declared.error_name.ErrorName.TheVariants.{LimitCheck, SyntaxError}
+use Rattle.ps_names.specs.declared.error_name.ErrorName.TheVariants.{LimitCheck, SyntaxError}
 use Rattle.ps_fixed.specs.declared.Undefined.{Undefined}
 use Rattle.ps_scan.specs.Characters.{is_delimiter, blanks}
 use Rattle.ps_scan.specs.Numbers.{is_integer, is_decimal, is_radix, integer_value, real_value, radix_value}

@@ -7,8 +7,8 @@ use Rattle.std.specs.Char.{digit_value}
 use Rattle.std.specs.Str.Parse.{digits_value}
 use Rattle.ps_scan.specs.Strings.{string_limit, is_octal, octal_length, begins_with_feed, escape_length, escape_byte, piece_length, piece_byte, depth_after, is_hex_digit, pairs, onto, string_body}
 use Rattle.std.specs.Prelude.{nat_le, Result, Ok, Err}
-use Rattle.ps_objects.specs.declared.error_name.ErrorName.{ErrorName}
-use Rattle.ps_objects.specs.declared.error_name.ErrorName.TheVariants.{LimitCheck}
+use Rattle.ps_names.specs.declared.error_name.ErrorName.{ErrorName}
+use Rattle.ps_names.specs.declared.error_name.ErrorName.TheVariants.{LimitCheck}
 use Rattle.ps_scan.specs.Token.{scan_of, string_token}
 use Rattle.ps_scan.specs.declared.tokens.Token.{Token}
 use Rattle.ps_scan.specs.declared.tokens.Token.TheVariants as token

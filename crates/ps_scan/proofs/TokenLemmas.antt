@@ -11,7 +11,7 @@ use Rattle.ps_scan.specs.Numbers.{is_integer, integer_value, is_decimal, is_radi
 use Rattle.ps_scan.specs.Simple.{is_plain_byte, is_plain_row, is_plain, IsPlainScan, LeavesPlain, PlainScan}
 use Rattle.std.specs.Prelude.{ℤ, nat_le, is_some, Option, Some, None, Result, Ok, Err}
 use Rattle.std.specs.List.{prefix_len}
-use Rattle.ps_objects.specs.declared.error_name.ErrorName.{ErrorName}
+use Rattle.ps_names.specs.declared.error_name.ErrorName.{ErrorName}
 use Rattle.ps_scan.specs.Strings.{is_hex, hex_bytes, onto, piece_byte, piece_length, depth_after, string_body}
 use Rattle.ps_scan.specs.declared.rows.NameKind.{NameKind}
 use Rattle.ps_scan.specs.declared.rows.NameKind.TheVariants as kinds

@@ -1,7 +1,7 @@
 -- Texts of integers and names alone.
 use Rattle.std.specs.Prelude.{◌≡◌, ℕ, Bool, true, false, not, ◌&&◌, ◌||◌, ◌==◌, nat_eq, nat_le, is_some, List, [], ◌∷◌, length, drop, codes, if◌then◌else◌}
 use Rattle.std.specs.List.{list_all, list_any, slice_split, starts_with}
-use Rattle.ps_objects.specs.declared.error_name.ErrorName.TheVariants.{SyntaxError}
+use Rattle.ps_names.specs.declared.error_name.ErrorName.TheVariants.{SyntaxError}
 use Rattle.ps_scan.specs.Characters.{is_line_end, is_special, is_delimiter}
 use Rattle.ps_scan.specs.Numbers.{is_integer, integer_value, is_decimal, is_radix}
 use Rattle.ps_scan.specs.declared.tokens.Token.{Token}

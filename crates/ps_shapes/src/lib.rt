@@ -2,7 +2,6 @@
 #![tactic(auto)]
 
 mod clip;
-mod memory;
 mod numbers;
 mod paper;
 mod path;
@@ -12,7 +11,6 @@ mod span;
 mod thresholds;
 
 pub use clip::{Clip, Clips};
-pub use memory::NoMemory;
 pub use numbers::{Matrix, Real};
 pub use paper::Paper;
 pub use path::{DevicePoint, Path, Segment};

@@ -6,7 +6,8 @@ ghost use Rattle.ps_shapes.specs.Picture.{picture_bytes};
 ghost use Rattle.ps_shapes.specs.Sheet.{drawn, pixel, repainted, IsWhole};
 ghost use Rattle.ps_shapes.specs.Span.{holds};
 
-use crate::{NoMemory, Span};
+use crate::Span;
+use copy_lists::{Duplicate, NoMemory};
 use std::alloc::Global;
 use std::marker::Model;
 
@@ -218,4 +219,10 @@ fn mask(first: usize, past: usize) -> u8
     ensures { result ≡ 2 ^ (8 - first) - 2 ^ (8 - past) }
 {
     ((1u16 << (8 - first)) - (1u16 << (8 - past))) as u8
+}
+
+impl Duplicate for Paper {
+    fn duplicate(&self) -> Result<Paper, NoMemory> {
+        self.copy()
+    }
 }

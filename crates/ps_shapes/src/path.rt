@@ -2,7 +2,8 @@
 ghost use Rattle.std.specs.Prelude.{◌≡◌, ◌+◌, ◌-◌, ◌≤◌, ◌<◌, [], ◌∷◌, ◌++◌, length, take, IsTrue, IfOk, OnErr, OnOk};
 ghost use Rattle.ps_shapes.specs.Near.{IsOnDevice};
 
-use crate::{NoMemory, Real};
+use crate::Real;
+use copy_lists::NoMemory;
 use std::alloc::Global;
 use std::marker::Model;
 

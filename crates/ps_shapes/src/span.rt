@@ -1,7 +1,7 @@
 //! Spans of pixels.
 ghost use Rattle.std.specs.Prelude.{◌≡◌, ◌<◌, [], ◌∷◌, ◌++◌, All, IfOk, OnErr, OnOk};
 
-use crate::NoMemory;
+use copy_lists::{Duplicate, NoMemory, Sequence};
 use std::alloc::Global;
 use std::marker::Model;
 
@@ -91,74 +91,11 @@ impl Eq for Spans {
     ghost laws = { lists_equiv same_span_equivalence };
 }
 
+impl Duplicate for Spans {
+    fn duplicate(&self) -> Result<Spans, NoMemory> {
+        self.copy()
+    }
+}
+
 /// A list of lists of spans.
-#[derive(Drop)]
-pub struct SpansList {
-    lists: Vec<Spans>,
-}
-
-impl Model for SpansList {
-    ghost use Rattle.std.specs.Prelude.{List};
-    ghost use Rattle.ps_shapes.specs.declared.span.Span.{Span};
-
-    ghost Value = { List (List Span) };
-
-    ghost view = { λ s. s.lists.items };
-}
-
-impl SpansList {
-    pub fn new(alloc: Global) -> SpansList
-        ensures { result ≡ [] }
-    {
-        SpansList {
-            lists: Vec::new(alloc),
-        }
-    }
-
-    pub fn push(&mut self, spans: Spans) -> Result<(), NoMemory>
-        ensures ok { OnOk result (self.new ≡ self.old ++ spans ∷ []) }
-        ensures err { OnErr result (self.new ≡ self.old) }
-    {
-        self.lists.push(spans)?;
-        Ok(())
-    }
-
-    pub fn as_slice(&self) -> &[Spans]
-        ensures { result.now ≡ self.now }
-    {
-        self.lists.as_slice()
-    }
-
-    pub fn copy(&self) -> Result<SpansList, NoMemory>
-        ensures { IfOk result (λ lists. lists ≡ self.now) }
-    {
-        let mut lists = Vec::new(*self.lists.allocator());
-        for spans in self.lists.as_slice() {
-            lists.push(spans.copy()?)?;
-        }
-        Ok(SpansList { lists })
-    }
-}
-
-impl PartialEq for SpansList {
-    ghost use Rattle.std.specs.Cmp.{partial_equiv_from_equiv};
-    ghost use Rattle.std.specs.Cmp.Lexicographic.{pointwise};
-    ghost use Rattle.ps_shapes.specs.Same.{same_span};
-    ghost use Rattle.std.specs.Cmp.Lexicographic.{lists_equiv};
-    ghost use Rattle.ps_shapes.specs.Laws.{same_span_equivalence};
-
-    ghost eq = { pointwise (pointwise same_span) };
-
-    ghost laws = { partial_equiv_from_equiv (lists_equiv (lists_equiv same_span_equivalence)) };
-
-    fn eq(&self, other: &SpansList) -> bool {
-        self.as_slice() == other.as_slice()
-    }
-}
-
-impl Eq for SpansList {
-    ghost use Rattle.std.specs.Cmp.Lexicographic.{lists_equiv};
-    ghost use Rattle.ps_shapes.specs.Laws.{same_span_equivalence};
-
-    ghost laws = { lists_equiv (lists_equiv same_span_equivalence) };
-}
+pub type SpansList = Sequence<Spans>;

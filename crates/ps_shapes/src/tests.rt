@@ -1,6 +1,5 @@
-use crate::{
-    DevicePoint, NoMemory, Paper, Path, Point, Polygon, Polygons, Real, Segment, Span, Thresholds,
-};
+use crate::{DevicePoint, Paper, Path, Point, Polygon, Polygons, Real, Segment, Span, Thresholds};
+use copy_lists::NoMemory;
 use std::alloc::Global;
 use std::test::Fail;
 

@@ -2,7 +2,7 @@
 ghost use Rattle.std.specs.Prelude.{◌≡◌, ◌*◌, ◌<◌, [], length, IfOk, IsTrue, ◌↔◌};
 ghost use Rattle.ps_shapes.specs.Screen.{IsScreen};
 
-use crate::NoMemory;
+use copy_lists::NoMemory;
 use std::alloc::Global;
 use std::marker::Model;
 

@@ -2,7 +2,7 @@
 //! messages to standard error.
 #![tactic(auto)]
 
-use ps_objects::NoMemory;
+use copy_lists::NoMemory;
 use rip_ports::{StdSink, StdSource};
 use rip_run::{Status, Word, rip_plain};
 use std::alloc::{Alloc, Global};

@@ -3,7 +3,7 @@ ghost use Rattle.std.specs.Prelude.{◌≡◌, ◌≤◌, ◌+◌, ◌↔◌, �
 
 use crate::call_counter::CallCounter;
 use crate::{Failed, Sink};
-use ps_shapes::NoMemory;
+use copy_lists::NoMemory;
 use std::alloc::Global;
 use std::marker::Model;
 

@@ -4,7 +4,7 @@ use Rattle.ps_scan.specs.Token.{token_at}
 use Rattle.ps_scan.specs.declared.tokens.Token.{Token}
 use Rattle.ps_scan.specs.declared.tokens.Scan.{Scan}
 use Rattle.ps_scan.specs.declared.tokens.Scan.TheVariants as scan
-use Rattle.ps_objects.specs.declared.error_name.ErrorName.{ErrorName}
+use Rattle.ps_names.specs.declared.error_name.ErrorName.{ErrorName}
 use Rattle.rip_run.specs.Section.{after_step, execute, followed, run_of, says, step_of, tokens_from, Steps}
 use Rattle.rip_run.specs.declared.section.Ending.{Ending}
 use Rattle.rip_run.specs.declared.section.Ending.TheVariants as ending

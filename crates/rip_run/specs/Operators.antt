@@ -1,8 +1,8 @@
 -- The operators on whole numbers (section 8.1 of the language manual).
 use Rattle.std.specs.Prelude.{◌≡◌, ◌<◌, ◌&&◌, ℕ, ℤ, pos, negsuc, ◌+ℤ◌, ◌-ℤ◌, int_le, length, nat_le, Bool, List, [], ◌∷◌, Option, Some, None, if◌then◌else◌, codes, nat_eq}
 use Rattle.std.specs.Cmp.Lexicographic.{pointwise}
-use Rattle.ps_objects.specs.declared.error_name.ErrorName.{ErrorName}
-use Rattle.ps_objects.specs.declared.error_name.ErrorName.TheVariants.{StackOverflow, StackUnderflow}
+use Rattle.ps_names.specs.declared.error_name.ErrorName.{ErrorName}
+use Rattle.ps_names.specs.declared.error_name.ErrorName.TheVariants.{StackOverflow, StackUnderflow}
 use Rattle.rip_run.specs.declared.operator.Operator.{Operator}
 use Rattle.rip_run.specs.declared.operator.Operator.TheVariants as operator
 use Rattle.rip_run.specs.declared.operator.Effect.{Effect}

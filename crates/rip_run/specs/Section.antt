@@ -1,8 +1,8 @@
 -- The meaning of a section of whole numbers: its tokens are executed in order.
 use Rattle.std.specs.Prelude.{◌≡◌, ℕ, zero, suc, ◌+◌, ℤ, Bool, true, false, List, [], ◌∷◌, ◌++◌, length, nat_le, Option, Some, None, if◌then◌else◌}
 use Rattle.std.specs.Fmt.{signed_decimal}
-use Rattle.ps_objects.specs.declared.error_name.ErrorName.{ErrorName}
-use Rattle.ps_objects.specs.declared.error_name.ErrorName.TheVariants.{LimitCheck, StackOverflow, SyntaxError, Undefined}
+use Rattle.ps_names.specs.declared.error_name.ErrorName.{ErrorName}
+use Rattle.ps_names.specs.declared.error_name.ErrorName.TheVariants.{LimitCheck, StackOverflow, SyntaxError, Undefined}
 use Rattle.ps_scan.specs.Token.{token_at}
 use Rattle.ps_scan.specs.declared.tokens.Token.{Token}
 use Rattle.ps_scan.specs.declared.tokens.Token.TheVariants as token

@@ -16,7 +16,7 @@ use crate::status::Status;
 use crate::texts::{close, end_line, not_yet_line, refuse_pages, report, too_large_line};
 use crate::word::Command;
 use dsc_split::{Section, Sections, SplitError, split};
-use ps_objects::{NoMemory, Text};
+use copy_lists::{NoMemory, Text};
 use ps_scan::simple;
 use rip_ports::{Failed, Sink, Source};
 use std::alloc::Global;

@@ -2,7 +2,7 @@
 ghost use Rattle.std.specs.Prelude.{◌≡◌, [], ◌∷◌, OnOk, MatchOption};
 ghost use Rattle.rip_run.specs.Operators.{is_full};
 
-use ps_objects::NoMemory;
+use copy_lists::NoMemory;
 use std::alloc::Global;
 use std::marker::Model;
 

@@ -4,7 +4,8 @@ ghost use Rattle.rip_run.specs.Operators.{operator_named, effect_of, leaves, Tak
 ghost use Rattle.rip_run.specs.declared.operator.Operator.TheVariants.{Add, Sub, Pop, Dup, Exch, Print};
 
 use crate::operands::Operands;
-use ps_objects::{ErrorName, NoMemory};
+use copy_lists::NoMemory;
+use ps_objects::ErrorName;
 
 /// An operator that takes whole numbers (section 8.1 of the language manual).
 #[derive(Clone, Copy, Debug, PartialEq, Eq)]

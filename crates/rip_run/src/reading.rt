@@ -3,7 +3,7 @@ ghost use Rattle.std.specs.Prelude.{◌≡◌, ◌+◌, ◌<◌, ◌≤◌, ◌^
 ghost use Rattle.rip_ports.specs.Ports.{Gives};
 ghost use Rattle.rip_run.specs.Reading.{IsAtEnd, IsFailure, HasFailed, WasTooLong};
 
-use ps_objects::NoMemory;
+use copy_lists::NoMemory;
 use rip_ports::{Failed, Source};
 use std::alloc::{AllocError, Global};
 

@@ -8,7 +8,8 @@ ghost use Rattle.rip_run.specs.declared.section.Ending.TheVariants.{Stopped};
 use crate::operands::Operands;
 use crate::operator::{Effect, Operator};
 use itoa::Buffer;
-use ps_objects::{ErrorName, NoMemory, Text};
+use copy_lists::{NoMemory, Text};
+use ps_objects::ErrorName;
 use ps_scan::{Scan, Token, next};
 use std::alloc::Global;
 

@@ -1,5 +1,5 @@
 use crate::{Status, Word, rip_plain};
-use ps_objects::NoMemory;
+use copy_lists::NoMemory;
 use rip_ports::{Failed, MemSink, MemSource, Source};
 use std::alloc::Global;
 

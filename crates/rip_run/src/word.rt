@@ -1,40 +1,11 @@
 //! The words of a command.
-ghost use Rattle.std.specs.Prelude.{◌≡◌, IfOk};
+ghost use Rattle.std.specs.Prelude.{◌≡◌};
 ghost use Rattle.rip_run.specs.Words.{command_of};
 
-use ps_objects::NoMemory;
-use std::alloc::Global;
-use std::marker::Model;
+use copy_lists::Text;
 
-/// A word of the command line, seen as its bytes.
-#[derive(Drop)]
-pub struct Word {
-    bytes: Vec<u8>,
-}
-
-impl Model for Word {
-    ghost use Rattle.std.specs.Prelude.{ℕ, List};
-
-    ghost Value = { List ℕ };
-
-    ghost view = { λ w. w.bytes.items };
-}
-
-impl Word {
-    pub fn from_text(alloc: Global, text: &str) -> Result<Word, NoMemory>
-        ensures { IfOk result (λ word. word ≡ text.now) }
-    {
-        Ok(Word {
-            bytes: Vec::from_slice(alloc, text.as_bytes())?,
-        })
-    }
-
-    pub(crate) fn as_slice(&self) -> &[u8]
-        ensures { result.now ≡ self.now }
-    {
-        self.bytes.as_slice()
-    }
-}
+/// A word of the command line.
+pub type Word = Text;
 
 /// What the words ask for.
 #[derive(Clone, Copy, Debug, PartialEq, Eq)]

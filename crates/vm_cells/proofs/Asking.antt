@@ -19,14 +19,15 @@ use Rattle.ps_objects.specs.declared.place.Value.TheVariants as value
 use Rattle.ps_memory.specs.Memory.{is_global, newer, same_save, Content, dictionary, items, characters, Cells, Memory, part, in_content, whole, item, entry, access, object_found, byte_found, page_found, Page, here, out, in_string, told, keys_of, shape_in, shape_at, value_at, is_slot, is_byte, copy_named, perform}
 use Rattle.ps_memory.specs.Frame.{later, Allowed, IsUnused, IsNewest}
 use Rattle.ps_memory.specs.Writes.{apply, is_write, Applicable}
-use Rattle.vm_mem.specs.Conditions.{is_here, is_dictionary, stands}
+use Rattle.vm_mem.specs.Conditions.{is_here, page_is_here, is_dictionary, stands}
 use Rattle.vm_journal.specs.Part.{HaveCells}
-use Rattle.vm_content.specs.Next.{is_after, IsNextIn}
+use Rattle.vm_content.specs.Next.{IsNextIn}
+use Rattle.ps_memory.specs.Next.{is_after}
 use Rattle.ps_memory.specs.Order.{cell_cmp}
-use Rattle.vm_committed.specs.Whole.{HaveHolders}
-use Rattle.vm_committed.specs.Writes.{action_of, actions}
-use Rattle.vm_committed.specs.declared.writes.Write.{Write}
-use Rattle.vm_committed.specs.declared.writes.Write.TheVariants.{Fresh, Put, Remove, Save}
+use Rattle.ps_memory.specs.Holders.{HaveHolders}
+use Rattle.vm_mem.specs.Writes.{action_of, actions}
+use Rattle.vm_mem.specs.declared.writes.Write.{Write}
+use Rattle.vm_mem.specs.declared.writes.Write.TheVariants.{Fresh, Put, Remove, Save}
 use Rattle.vm_content.proofs.Cells.{cell_found}
 
 -- ---- open saves
@@ -188,7 +189,8 @@ one_more_applied w ws new M m n e h i = h ∙ ap (perform (action_of w)) e ∙ s
 
 -- ---- the paper
 
-pub paper_is_here : (M : Memory) → value_at M loc.Paper ≢ value.Absent → is_here M.page ≡ true
+pub paper_is_here : (M : Memory) → value_at M loc.Paper ≢ value.Absent → page_is_here M ≡ true
+unfolding page_is_here
 paper_is_here M h = go M.page h
   where
     go : (p : Page) → told (page_found p) ≢ value.Absent → is_here p ≡ true

@@ -1,11 +1,8 @@
-//! The traits of memory, which the committed memory has.
+//! The committed memory, with the traits that it has.
 #![tactic(auto)]
 
-mod base;
-mod based;
 #[cfg(test)]
 mod tests;
 
-pub use base::Base;
-pub use vm_committed::{Cells, Write, Writes};
-pub use vm_mem::{Mem, RestoreRefusal};
+pub use vm_committed::Cells;
+pub use vm_mem::{Base, Glance, Mem, RestoreRefusal, Write, Writes};

@@ -4,9 +4,8 @@ ghost use Rattle.ps_objects.specs.declared.place.Value.TheVariants as value;
 ghost use Rattle.ps_memory.specs.Memory.{is_global, newer, value_at, is_place, is_kind, spot_of, copy_named, perform};
 ghost use Rattle.ps_memory.specs.Frame.{Allowed, IsUnused, IsNewest, later};
 ghost use Rattle.ps_memory.specs.Writes.{Applicable};
-ghost use Rattle.vm_mem.specs.Conditions.{stands};
-ghost use Rattle.vm_mem.specs.Conditions.{is_here};
-ghost use Rattle.vm_committed.specs.Writes.{action_of, actions};
+ghost use Rattle.vm_mem.specs.Conditions.{page_is_here, stands};
+ghost use Rattle.vm_mem.specs.Writes.{action_of, actions};
 
 use super::*;
 use ps_objects::{
@@ -18,12 +17,13 @@ use std::alloc::Global;
 use std::collections::BTreeMap;
 use std::test::Fail;
 use vm_journal::Locals;
+use vm_mem::hash_of;
 
 // What may be done to a memory, asked as the test runs: each call's condition is then known.
 
 #[tactic(auto, using(crate::proofs::Asking::paper_is_here))]
 fn is_here(memory: &Cells) -> bool
-    ensures { IsTrue result → is_here memory.now.page ≡ true }
+    ensures { IsTrue result → page_is_here memory.now ≡ true }
 {
     is_found(memory, &Loc::Paper)
 }
@@ -32,7 +32,7 @@ fn is_here(memory: &Cells) -> bool
 fn is_found(memory: &Cells, at: &Loc) -> bool
     ensures { IsTrue result → value_at memory.now at.now ≢ value.Absent }
 {
-    !memory.holds(at, &Value::Absent)
+    !memory.same(at, &Value::Absent)
 }
 
 /// Whether a place may be looked at.
@@ -98,6 +98,7 @@ fn is_newest(memory: &Cells, name: SaveName) -> bool
         count: name.count,
         space: Space::Global,
     };
+    memory.have_holders();
     memory.locals().next(Some(last)).is_none()
 }
 
@@ -204,6 +205,7 @@ fn allows(memory: &Cells, write: &Write) -> Result<bool, NoMemory>
 }
 
 /// Does a write through the calls of operators, if its condition is met.
+#[tactic(auto, using(vm_mem::proofs::Conditions::may_make, vm_mem::proofs::Conditions::may_store, vm_mem::proofs::Conditions::may_open))]
 fn act(memory: &mut Cells, write: Write) -> Result<bool, NoMemory> {
     if !is_here(memory) || !allows(memory, &write)? {
         return Ok(false);
@@ -218,6 +220,7 @@ fn act(memory: &mut Cells, write: Write) -> Result<bool, NoMemory> {
 }
 
 /// Restores a save, if it is open.
+#[tactic(auto, using(vm_mem::proofs::Conditions::may_restore))]
 fn restore(memory: &mut Cells, name: SaveName) -> Result<bool, NoMemory> {
     if !is_here(memory) || !is_open(memory, name)? {
         return Ok(false);
@@ -230,19 +233,20 @@ fn restore(memory: &mut Cells, name: SaveName) -> Result<bool, NoMemory> {
 }
 
 /// Does a write on a memory, if its condition is met, and adds it to others.
+#[tactic(auto, using(vm_mem::proofs::Conditions::may_make, vm_mem::proofs::Conditions::may_store, vm_mem::proofs::Conditions::may_open))]
 fn add(memory: &mut Cells, writes: &mut Writes, write: Write) -> Result<bool, NoMemory>
     ensures allowed { IfOk result (λ done. IsTrue done → Allowed (action_of write) memory.old) }
     ensures memory { IfOk result (λ done. IsTrue done → memory.new ≡ perform (action_of write) memory.old) }
     ensures writes { IfOk result (λ done. IsTrue done → writes.new ≡ write ∷ writes.old) }
 {
-    if !allows(memory, &write)? {
+    if !is_here(memory) || !allows(memory, &write)? {
         return Ok(false);
     }
     match &write {
-        Write::Fresh { cell, shape } => memory.make(*cell, *shape)?,
-        Write::Put { at, value } => memory.put(at, value.copy()?)?,
-        Write::Remove { dict, key } => memory.remove_entry(*dict, key)?,
-        Write::Save { name } => memory.open(*name)?,
+        Write::Fresh { cell, shape } => memory.fresh(*cell, *shape)?,
+        Write::Put { at, value } => memory.store(at, value.copy()?)?,
+        Write::Remove { dict, key } => memory.remove(*dict, key)?,
+        Write::Save { name } => memory.save(*name)?,
     }
     writes.push(write)?;
     Ok(true)
@@ -254,7 +258,7 @@ fn written(memory: &Cells, steps: &[Step]) -> Result<Option<Writes>, NoMemory>
     ensures { IfOk result (λ writes. IfSome writes (λ writes. Applicable (actions writes) memory.now)) }
 {
     let mut writes = Writes::new(memory.alloc());
-    let mut after = memory.copied()?;
+    let mut after = memory.copy()?;
     for step in steps {
         let Some(write) = step.write() else {
             return Ok(None);
@@ -267,6 +271,7 @@ fn written(memory: &Cells, steps: &[Step]) -> Result<Option<Writes>, NoMemory>
 }
 
 /// Does steps at once, if each of them is a write whose condition is met.
+#[tactic(auto, using(vm_mem::proofs::Conditions::may_apply))]
 fn apply(memory: &mut Cells, steps: &[Step]) -> Result<bool, NoMemory> {
     if !is_here(memory) {
         return Ok(false);
@@ -866,6 +871,7 @@ fn writes_at_once_do_the_same(rt: HostRuntime) -> Result<(), Fail> {
 }
 
 /// Whether a look tells a value, and so do the calls that tell all values.
+#[tactic(auto, using(vm_mem::proofs::Conditions::may_look))]
 fn looks(memory: &mut Cells, at: &Loc, value: &Value) -> Result<bool, NoMemory> {
     if !is_here(memory) || !stands(memory, at) {
         return Ok(false);
@@ -873,7 +879,55 @@ fn looks(memory: &mut Cells, at: &Loc, value: &Value) -> Result<bool, NoMemory> 
     Ok(memory.look(at)? == *value && memory.view_at(at)? == *value && memory.same(at, value))
 }
 
+/// Whether a glance at an item tells this.
+#[tactic(auto, using(vm_mem::proofs::Conditions::may_look))]
+fn glances_item(memory: &mut Cells, array: Cell, at: u32, told: Glance) -> Result<bool, NoMemory> {
+    if !is_here(memory) || !stands(memory, &Loc::Item { array, at }) {
+        return Ok(false);
+    }
+    Ok(memory.glance_item(array, at)? == told)
+}
+
+/// Whether a glance at an entry tells this.
+#[tactic(auto, using(vm_mem::proofs::Conditions::may_look))]
+fn glances_entry(memory: &mut Cells, dict: Cell, key: Key, told: Glance) -> Result<bool, NoMemory> {
+    let at = Loc::Entry {
+        dict,
+        key: key.copy()?,
+    };
+    if !is_here(memory) || !stands(memory, &at) {
+        return Ok(false);
+    }
+    Ok(memory.glance_entry(dict, &key, hash_of(&key))? == told)
+}
+
+#[test]
+fn glances_tell_without_copies(rt: HostRuntime) -> Result<(), Fail> {
+    let mut memory = start(&rt)?;
+    let shape = Shape::Array { len: 2 };
+    assert!(rt; act(&mut memory, Write::Fresh { cell: LIST, shape })?);
+    let at = Loc::Item { array: LIST, at: 1 };
+    let value = Held::Integer(-7).value();
+    assert!(rt; act(&mut memory, Write::Put { at, value })?);
+    assert!(rt; glances_item(&mut memory, LIST, 0, Glance::Other)?);
+    assert!(rt; glances_item(&mut memory, LIST, 1, Glance::Integer(-7))?);
+    let exch = Op::from_index(1).ok_or("no operator")?;
+    let name = Name::within_limit(rt.alloc(), b"exch")?;
+    assert!(rt;
+        glances_entry(
+            &mut memory,
+            SYSTEM_DICT,
+            Key::Name(name),
+            Glance::Operator(exch)
+        )?
+    );
+    let name = Name::within_limit(rt.alloc(), b"exch")?;
+    assert!(rt; glances_entry(&mut memory, USER_DICT, Key::Name(name), Glance::Absent)?);
+    Ok(())
+}
+
 /// How many cells stand, if that is below 100 and their shapes are told.
+#[tactic(auto, using(vm_mem::proofs::Conditions::may_ask))]
 fn cells_in(memory: &Cells) -> Option<u32> {
     if !is_here(memory) {
         return None;
@@ -892,6 +946,7 @@ fn cells_in(memory: &Cells) -> Option<u32> {
 }
 
 /// Lifts the paper, blackens a pixel and lays it back.
+#[tactic(auto, using(vm_mem::proofs::Conditions::may_lay_out))]
 fn paints(memory: &mut Cells) -> Result<bool, NoMemory> {
     if !is_here(memory) {
         return Ok(false);

@@ -1,10 +1,12 @@
 -- Writes done one after another.
-use Rattle.std.proofs.Common.{◌≡◌, ℕ, zero, suc, ◌-◌, ◌<◌, List, [], ◌∷◌, Some, refl, sym, ap, subst, ◌∙◌, length, drop, slice_get, arith}
+use Rattle.std.proofs.Common.{◌≡◌, true, ℕ, zero, suc, ◌-◌, ◌<◌, List, [], ◌∷◌, Some, refl, sym, ap, subst, ◌∙◌, length, drop, slice_get, arith}
 use Rattle.ps_memory.specs.Memory.{Memory, Action, perform}
 use Rattle.ps_memory.specs.Frame.{Allowed}
 use Rattle.ps_memory.specs.Writes.{apply, Applicable}
-use Rattle.vm_committed.specs.declared.writes.Write.{Write}
-use Rattle.vm_committed.specs.Writes.{action_of, actions}
+use Rattle.vm_mem.specs.declared.writes.Write.{Write}
+use Rattle.vm_mem.specs.Conditions.{page_is_here}
+use Rattle.vm_mem.specs.Writes.{action_of, actions}
+use Rattle.vm_mem.proofs.Conditions.{here_applied}
 
 -- what is left begins with the action of the write that stands there
 next_action : (ws : List Write) (i : ℕ) (w : Write) → slice_get ws i ≡ Some w → drop i (actions ws) ≡ action_of w ∷ drop (suc i) (actions ws)
@@ -28,6 +30,10 @@ next_allowed ws M m j w all done is low =
 
 pub next_done : (ws : List Write) (M m n : Memory) (j : ℕ) (w : Write) → m ≡ apply (drop j (actions ws)) M → n ≡ perform (action_of w) m → slice_get ws (j - 1) ≡ Some w → 0 < j → n ≡ apply (drop (j - 1) (actions ws)) M
 next_done ws M m n j w done next is low = next ∙ ap (perform (action_of w)) done ∙ sym (ap (λ us. apply us M) (next_at ws j w low is))
+
+-- what is done leaves the paper here
+pub still_here : (ws : List Action) (M m : Memory) → page_is_here M ≡ true → m ≡ apply ws M → page_is_here m ≡ true
+still_here ws M m h e = ap page_is_here e ∙ here_applied ws M h
 
 -- at first none is done
 pub none_done : (ws : List Write) (M m : Memory) → m ≡ M → m ≡ apply (drop (length ws) (actions ws)) M

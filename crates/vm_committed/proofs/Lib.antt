@@ -8,3 +8,4 @@ mod Nexts
 mod Applied
 mod Holding
 mod Starting
+mod Asked

@@ -11,8 +11,9 @@ use Rattle.ps_objects.specs.declared.cell.Cell.{Cell}
 use Rattle.ps_objects.specs.declared.cell.Space.TheVariants.{Local, Global}
 use Rattle.ps_objects.specs.declared.place.Shape.{Shape}
 use Rattle.ps_memory.specs.Memory.{is_global, Content, Memory, whole, in_content, shape_in, shape_at}
-use Rattle.vm_content.specs.Next.{comes_before, is_in, IsNextIn}
-use Rattle.vm_committed.specs.Next.{IsNext, earlier}
+use Rattle.vm_content.specs.Next.{is_in, IsNextIn}
+use Rattle.ps_memory.specs.Next.{comes_before, IsNext}
+use Rattle.vm_committed.specs.Next.{earlier}
 
 -- ---- the next of two
 

@@ -8,12 +8,12 @@ use Rattle.ps_objects.specs.declared.place.Value.TheVariants as value
 use Rattle.ps_memory.specs.Memory.{is_global, Cells, Memory, Action, spot_of, with_part, put_cell, perform}
 use Rattle.ps_memory.proofs.Frame.{kept_store, kept_fresh}
 use Rattle.vm_content.specs.Back.{given_back}
-use Rattle.vm_committed.specs.declared.writes.Write.{Write}
-use Rattle.vm_committed.specs.declared.writes.Write.TheVariants.{Fresh, Put, Remove, Save}
+use Rattle.vm_mem.specs.declared.writes.Write.{Write}
+use Rattle.vm_mem.specs.declared.writes.Write.TheVariants.{Fresh, Put, Remove, Save}
 use Rattle.vm_committed.specs.declared.undo.Undo.{Undo}
 use Rattle.vm_committed.specs.declared.undo.Undo.TheVariants.{Nothing, Made, Held, Byte, Rand, Laid}
 use Rattle.vm_journal.specs.Part.{is_empty}
-use Rattle.vm_committed.specs.Writes.{action_of}
+use Rattle.vm_mem.specs.Writes.{action_of}
 use Rattle.vm_committed.specs.Undo.{taken_back, all_taken_back, opens_none, none_opens, stays_closed}
 
 -- ---- writes that open no save

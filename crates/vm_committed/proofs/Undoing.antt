@@ -18,7 +18,7 @@ use Rattle.vm_content.specs.Back.{given_back}
 use Rattle.vm_content.specs.declared.before.Before.{Before}
 use Rattle.vm_content.proofs.Back.{set_back, set_same, set_beyond}
 use Rattle.vm_journal.specs.Part.{Part}
-use Rattle.vm_committed.specs.Whole.{HaveHolders}
+use Rattle.ps_memory.specs.Holders.{HaveHolders}
 use Rattle.vm_committed.specs.Undo as undo
 use Rattle.vm_committed.proofs.WholeMaking.{none_removed, taken_back}
 use Rattle.vm_committed.specs.declared.undo.Undo.TheVariants.{Made, Byte}

@@ -15,7 +15,7 @@ use Rattle.ps_memory.proofs.Places.{kept_at}
 use Rattle.ps_memory.proofs.Frame.{save_is}
 use Rattle.ps_memory.proofs.Keeping.{same_maps}
 use Rattle.vm_journal.specs.Part.{Part, HaveCells, Closes, kept_from}
-use Rattle.vm_committed.specs.Whole.{HaveHolders}
+use Rattle.ps_memory.specs.Holders.{HaveHolders}
 
 -- ---- names
 

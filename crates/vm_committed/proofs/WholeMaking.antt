@@ -12,7 +12,7 @@ use Rattle.ps_memory.proofs.Places.{part_here, part_other, insert_here, insert_o
 use Rattle.ps_memory.proofs.Keeping.{same_maps}
 use Rattle.vm_content.proofs.Cells.{cell_inserted, cell_removed}
 use Rattle.vm_journal.specs.Part.{Part}
-use Rattle.vm_committed.specs.Whole.{HaveHolders}
+use Rattle.ps_memory.specs.Holders.{HaveHolders}
 
 module _ {X : Type 0} where
   pub none_removed : (m : FinMap cell_cmp X) (c : Cell) → get m c ≡ None → remove m c ≡ m

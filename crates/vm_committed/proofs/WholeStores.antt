@@ -12,7 +12,7 @@ use Rattle.ps_memory.proofs.Places.{mapped, put_at}
 use Rattle.ps_memory.proofs.Keeping.{same_maps}
 use Rattle.vm_content.proofs.Cells.{cell_written}
 use Rattle.vm_journal.specs.Part.{Part}
-use Rattle.vm_committed.specs.Whole.{HaveHolders}
+use Rattle.ps_memory.specs.Holders.{HaveHolders}
 
 module _ {X : Type 0} where
   self_mapped : (o : Option X) → mapped (λ x. x) o ≡ o

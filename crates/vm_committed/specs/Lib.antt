@@ -1,4 +1,3 @@
 pub mod Whole
-pub mod Writes
 pub mod Next
 pub mod Undo

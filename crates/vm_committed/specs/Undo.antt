@@ -8,8 +8,8 @@ use Rattle.vm_journal.specs.Part.{is_empty}
 use Rattle.vm_committed.specs.Whole.{page_of}
 use Rattle.vm_committed.specs.declared.undo.Undo.{Undo}
 use Rattle.vm_committed.specs.declared.undo.Undo.TheVariants.{Nothing, Made, Held, Byte, Rand, Laid}
-use Rattle.vm_committed.specs.declared.writes.Write.{Write}
-use Rattle.vm_committed.specs.declared.writes.Write.TheVariants.{Save}
+use Rattle.vm_mem.specs.declared.writes.Write.{Write}
+use Rattle.vm_mem.specs.declared.writes.Write.TheVariants.{Save}
 
 abbrev pub taken_back : Undo → Memory → Memory
 taken_back Nothing M = M

@@ -18,10 +18,6 @@ abbrev pub page_of : Page → spec.Page
 page_of (Here paper) = here paper
 page_of (Out width height) = out width height
 
--- each string is a cell's that stands
-abbrev pub HaveHolders : Memory → Type 0
-HaveHolders M = (c : Cell) → get (part M c) c ≡ None → get M.strings c ≡ None
-
 -- ---- how a memory is told from another
 
 abbrev page_parts : spec.Page → Sheet ⊎ (ℕ × ℕ)

@@ -3,22 +3,17 @@ ghost use Rattle.std.specs.Prelude.{◌≡◌, ◌≢◌, true, false, cond, rep
 ghost use Rattle.std.specs.FinMap.{get, insert, from_entries};
 ghost use Rattle.std.specs.List.{AllByRecursion};
 ghost use Rattle.ps_memory.specs.Order.{cell_cmp};
-ghost use Rattle.ps_objects.specs.declared.place.Loc.TheVariants as loc;
 ghost use Rattle.ps_objects.specs.declared.place.Value.TheVariants as value;
-ghost use Rattle.ps_memory.specs.Memory.{is_global, newer, part, with_part, value_at, shape_of, told, in_string, page_found, here, blank, lift, is_slot, is_kind, held, byte, rand, paper, spot_of, put_content, put_byte, put_cell, do_store, store, fresh, save, restore, copy_named, older_than, perform};
-ghost use Rattle.ps_memory.specs.Frame.{Allowed};
+ghost use Rattle.ps_memory.specs.Memory.{is_global, newer, part, with_part, value_at, told, in_string, page_found, is_slot, is_kind, held, byte, rand, paper, spot_of, put_content, put_byte, put_cell, do_store, copy_named, older_than};
 ghost use Rattle.vm_content.specs.Content.{slot_in};
-ghost use Rattle.vm_mem.specs.Conditions.{is_here};
-ghost use Rattle.vm_committed.specs.Whole.{HaveHolders};
+ghost use Rattle.ps_memory.specs.Holders.{HaveHolders};
 ghost use Rattle.vm_journal.specs.Part.{HaveCells, kept_from};
 
 use crate::page::Page;
-use ps_objects::{Cell, Key, Loc, NoMemory, SaveName, Shape, Space, Value};
-use ps_shapes::Paper;
+use ps_objects::{Cell, Loc, NoMemory, SaveName, Space, Value};
 use std::alloc::Global;
 use std::collections::BTreeMap;
 use std::marker::Model;
-use std::mem::replace;
 use vm_content::{Bytes, Content};
 use vm_journal::Locals;
 
@@ -40,7 +35,8 @@ impl Model for Cells {
     ghost use Rattle.std.specs.FinMap.{from_entries};
     ghost use Rattle.ps_memory.specs.Order.{cell_cmp};
     ghost use Rattle.ps_memory.specs.Memory.{Memory};
-    ghost use Rattle.vm_committed.specs.Whole.{memory_code, page_of, HaveHolders};
+    ghost use Rattle.vm_committed.specs.Whole.{memory_code, page_of};
+    ghost use Rattle.ps_memory.specs.Holders.{HaveHolders};
 
     ghost Value = { Memory };
 
@@ -56,10 +52,9 @@ impl Cells {
         self.alloc
     }
 
-    /// The local part: its cells and the open saves. Each string of the memory is a cell's that stands.
+    /// The local part: its cells and the open saves.
     pub fn locals(&self) -> &Locals
-        ensures part { result.now ≡ record { cells = self.now.locals; kept = self.now.kept } }
-        ensures holders { HaveHolders self.now }
+        ensures { result.now ≡ record { cells = self.now.locals; kept = self.now.kept } }
     {
         &self.locals
     }
@@ -74,152 +69,13 @@ impl Cells {
             Space::Global => self.globals.get(&cell),
         }
     }
-
-    /// A copy of the value at a place: absent where there is none.
-    pub fn value(&self, at: &Loc) -> Result<Value, NoMemory>
-        ensures { IfOk result (λ value. value ≡ value_at self.now at.now) }
-    {
-        match at {
-            Loc::Entry { dict, .. } | Loc::Keys { dict } | Loc::Access { dict } => {
-                self.held_value(*dict, at)
-            }
-            Loc::Item { array, .. } => self.held_value(*array, at),
-            Loc::Byte { string, at } => Ok(self.byte(*string, *at)),
-            Loc::Rand => Ok(Value::Rand(self.rand)),
-            Loc::Paper => self.paper(),
-        }
-    }
-
-    /// Stores a value of the place's kind. Where memory runs out, nothing has changed.
-    pub fn put(&mut self, at: &Loc, value: Value) -> Result<(), NoMemory>
-        requires { Allowed (store at.now value) self.old }
-        ensures ok { OnOk result (self.new ≡ perform (store at.now value) self.old) }
-        ensures err { OnErr result (self.new ≡ self.old) }
-    {
-        match at {
-            Loc::Entry { dict, .. } | Loc::Keys { dict } | Loc::Access { dict } => {
-                self.put_held(*dict, at, value)
-            }
-            Loc::Item { array, .. } => self.put_held(*array, at, value),
-            Loc::Byte { string, at } => {
-                self.put_byte(*string, *at, value);
-                Ok(())
-            }
-            Loc::Rand => {
-                self.put_rand(value);
-                Ok(())
-            }
-            Loc::Paper => {
-                self.put_paper(value);
-                Ok(())
-            }
-        }
-    }
-
-    /// Makes a cell. Where memory runs out, nothing has changed.
-    #[tactic(auto, using(crate::proofs::WholeMaking::none_removed))]
-    pub fn make(&mut self, cell: Cell, shape: Shape) -> Result<(), NoMemory>
-        requires { Allowed (fresh cell shape) self.old }
-        ensures ok { OnOk result (self.new ≡ perform (fresh cell shape) self.old) }
-        ensures err { OnErr result (self.new ≡ self.old) }
-    {
-        let content = Content::fresh(self.alloc, shape)?;
-        match shape {
-            Shape::Str { len } => self.make_string(cell, len, content),
-            Shape::Array { .. } => self.make_held(cell, content),
-            Shape::Dict { .. } => self.make_held(cell, content),
-        }
-    }
-
-    /// Opens a save. Where memory runs out, nothing has changed.
-    pub fn open(&mut self, name: SaveName) -> Result<(), NoMemory>
-        requires { Allowed (save name) self.old }
-        ensures ok { OnOk result (self.new ≡ perform (save name) self.old) }
-        ensures err { OnErr result (self.new ≡ self.old) }
-    {
-        self.locals.open(name)
-    }
-
-    /// Gives the local part back as it was at an open save, and closes it and all later ones
-    /// (section 3.7.3 of the language manual: save and restore).
-    #[tactic(auto, using(crate::proofs::WholeClosing::holders_kept))]
-    pub fn give_back(&mut self, name: SaveName) -> Result<(), NoMemory>
-        requires { Allowed (restore name) self.old }
-        ensures { OnOk result (self.new ≡ perform (restore name) self.old) }
-    {
-        close_until(&mut self.locals, &mut self.strings, name)?;
-        Ok(())
-    }
-}
-
-// What an operator asks for besides.
-impl Cells {
-    /// The shape of a cell that stands.
-    pub fn shape_of(&self, cell: Cell) -> Shape
-        ensures { result ≡ shape_of self.now cell }
-    {
-        match self.content(cell) {
-            Some(content) => content.shape(),
-            None => Shape::Dict { capacity: 0 },
-        }
-    }
-
-    /// Takes the entry of a key away, if there is one.
-    pub fn remove_entry(&mut self, dict: Cell, key: &Key) -> Result<(), NoMemory>
-        requires { Allowed (store (loc.Entry dict key.now) value.Absent) self.old }
-        ensures { OnOk result (self.new ≡ perform (store (loc.Entry dict key.now) value.Absent) self.old) }
-    {
-        let at = Loc::Entry {
-            dict,
-            key: key.copy()?,
-        };
-        self.put(&at, Value::Absent)
-    }
-
-    /// Takes the paper out.
-    pub fn take_paper(&mut self) -> Paper
-        requires { is_here self.old.page ≡ true }
-        ensures paper { self.old.page ≡ here result }
-        ensures lifted { self.new ≡ lift self.old }
-    {
-        let nowhere = Page::Out {
-            width: 0,
-            height: 0,
-        };
-        match replace(&mut self.page, nowhere) {
-            Page::Here(paper) => {
-                self.page = Page::Out {
-                    width: paper.width(),
-                    height: paper.height(),
-                };
-                paper
-            }
-            Page::Out { .. } => unreachable!(),
-        }
-    }
-
-    /// Stores paper.
-    pub fn lay_paper(&mut self, paper: Paper)
-        ensures { self.new ≡ perform (store loc.Paper (value.Paper paper)) self.old }
-    {
-        self.page = Page::Here(paper);
-    }
-
-    /// Stores blank paper of a size in pixels.
-    pub fn blank_paper(&mut self, width: u32, height: u32) -> Result<(), NoMemory>
-        ensures { OnOk result (self.new ≡ perform (store loc.Paper (value.Paper (blank width height))) self.old) }
-    {
-        let paper = Paper::blank(self.alloc, width, height)?;
-        self.lay_paper(paper);
-        Ok(())
-    }
 }
 
 // The kinds of places, one by one.
 impl Cells {
     /// A copy of the value at a place of a cell.
     #[tactic(auto, using(crate::proofs::WholeValues::held_found, crate::proofs::WholeValues::held_missing))]
-    fn held_value(&self, cell: Cell, at: &Loc) -> Result<Value, NoMemory>
+    pub(crate) fn held_value(&self, cell: Cell, at: &Loc) -> Result<Value, NoMemory>
         requires { spot_of at.now ≡ held cell (slot_in at.now) }
         ensures { IfOk result (λ value. value ≡ value_at self.now at.now) }
     {
@@ -231,7 +87,7 @@ impl Cells {
 
     /// The byte at a place of a string.
     #[tactic(auto, using(vm_content::proofs::Cells::cell_found))]
-    fn byte(&self, string: Cell, at: u32) -> Value
+    pub(crate) fn byte(&self, string: Cell, at: u32) -> Value
         ensures { result ≡ told (in_string (get self.now.strings string) at) }
     {
         match self.strings.get(&string) {
@@ -244,7 +100,7 @@ impl Cells {
     }
 
     /// A copy of the paper.
-    fn paper(&self) -> Result<Value, NoMemory>
+    pub(crate) fn paper(&self) -> Result<Value, NoMemory>
         ensures { IfOk result (λ value. value ≡ told (page_found self.now.page)) }
     {
         match &self.page {
@@ -254,7 +110,7 @@ impl Cells {
     }
 
     /// Stores a value at a place of a cell.
-    fn put_held(&mut self, cell: Cell, at: &Loc, value: Value) -> Result<(), NoMemory>
+    pub(crate) fn put_held(&mut self, cell: Cell, at: &Loc, value: Value) -> Result<(), NoMemory>
         requires spot { spot_of at.now ≡ held cell (slot_in at.now) }
         requires place { is_slot (get (part self.old cell) cell) (slot_in at.now) ≡ true }
         ensures ok { OnOk result (self.new ≡ do_store (held cell (slot_in at.now)) value self.old) }
@@ -266,7 +122,7 @@ impl Cells {
         }
     }
 
-    fn put_byte(&mut self, string: Cell, at: u32, value: Value)
+    pub(crate) fn put_byte(&mut self, string: Cell, at: u32, value: Value)
         requires { is_kind (byte string at) value ≡ true }
         ensures { self.new ≡ do_store (byte string at) value self.old }
     {
@@ -276,7 +132,7 @@ impl Cells {
         }
     }
 
-    fn put_rand(&mut self, value: Value)
+    pub(crate) fn put_rand(&mut self, value: Value)
         requires { is_kind rand value ≡ true }
         ensures { self.new ≡ do_store rand value self.old }
     {
@@ -286,7 +142,7 @@ impl Cells {
         }
     }
 
-    fn put_paper(&mut self, value: Value)
+    pub(crate) fn put_paper(&mut self, value: Value)
         requires { is_kind paper value ≡ true }
         ensures { self.new ≡ do_store paper value self.old }
     {
@@ -300,7 +156,7 @@ impl Cells {
 // New cells.
 impl Cells {
     /// Adds a cell that isn't a string's.
-    fn make_held(&mut self, cell: Cell, content: Content) -> Result<(), NoMemory>
+    pub(crate) fn make_held(&mut self, cell: Cell, content: Content) -> Result<(), NoMemory>
         requires unused { get self.old.strings cell ≡ None }
         requires newest { is_global cell ≡ false → AllByRecursion (λ k. newer cell k.0 ≡ true) self.old.kept }
         ensures ok { OnOk result (self.new ≡ with_part self.old cell (λ m. insert m cell content)) }
@@ -311,7 +167,12 @@ impl Cells {
     }
 
     /// Adds a string's cell, and `len` zeros.
-    fn make_string(&mut self, cell: Cell, len: u32, content: Content) -> Result<(), NoMemory>
+    pub(crate) fn make_string(
+        &mut self,
+        cell: Cell,
+        len: u32,
+        content: Content,
+    ) -> Result<(), NoMemory>
         requires unused { get self.old.strings cell ≡ None }
         requires newest { is_global cell ≡ false → AllByRecursion (λ k. newer cell k.0 ≡ true) self.old.kept }
         ensures ok { OnOk result (self.new ≡ record (with_part self.old cell (λ m. insert m cell content)) { strings = insert self.old.strings cell (replicate len 0) }) }
@@ -421,7 +282,7 @@ pub(crate) fn put_byte_in(strings: &mut BTreeMap<Cell, Bytes>, string: Cell, at:
 }
 
 /// Closes the open saves from the newest to the one of this name, which is open.
-fn close_until(
+pub(crate) fn close_until(
     locals: &mut Locals,
     strings: &mut BTreeMap<Cell, Bytes>,
     name: SaveName,

@@ -11,23 +11,9 @@ use crate::page::Page;
 use ps_objects::{Cell, Loc, Paper, Value};
 
 impl Cells {
-    /// Whether the value at a place is this one. No memory is taken.
-    pub fn holds(&self, at: &Loc, value: &Value) -> bool
-        ensures { IsTrue result ↔ (value_at self.now at.now ≡ value.now) }
-    {
-        match at {
-            Loc::Entry { dict, .. } | Loc::Keys { dict } | Loc::Access { dict } => {
-                self.cell_holds(*dict, at, value)
-            }
-            Loc::Item { array, .. } => self.cell_holds(*array, at, value),
-            Loc::Byte { string, at } => is_byte(self.byte_at(*string, *at), value),
-            Loc::Rand => is_rand(self.rand, value),
-            Loc::Paper => is_paper(&self.page, value),
-        }
-    }
-
     #[tactic(auto, using(crate::proofs::Holding::held_by_cell, crate::proofs::Holding::held_by_none))]
-    fn cell_holds(&self, cell: Cell, at: &Loc, value: &Value) -> bool
+    /// Whether the value at a place of a cell is this one.
+    pub(crate) fn cell_holds(&self, cell: Cell, at: &Loc, value: &Value) -> bool
         requires { spot_of at.now ≡ held cell (slot_in at.now) }
         ensures { IsTrue result ↔ (value_at self.now at.now ≡ value.now) }
     {
@@ -39,7 +25,7 @@ impl Cells {
 
     /// A byte of a string.
     #[tactic(auto, using(vm_content::proofs::Cells::cell_found))]
-    fn byte_at(&self, string: Cell, at: u32) -> Option<u8>
+    pub(crate) fn byte_at(&self, string: Cell, at: u32) -> Option<u8>
         ensures { byte_found result ≡ in_string (get self.now.strings string) at }
     {
         match self.strings.get(&string) {
@@ -58,7 +44,7 @@ fn is_absent(value: &Value) -> bool
     }
 }
 
-fn is_byte(byte: Option<u8>, value: &Value) -> bool
+pub(crate) fn is_byte(byte: Option<u8>, value: &Value) -> bool
     ensures { IsTrue result ↔ (told (byte_found byte) ≡ value.now) }
 {
     match byte {
@@ -70,7 +56,7 @@ fn is_byte(byte: Option<u8>, value: &Value) -> bool
     }
 }
 
-fn is_rand(state: u32, value: &Value) -> bool
+pub(crate) fn is_rand(state: u32, value: &Value) -> bool
     ensures { IsTrue result ↔ (values.Rand state ≡ value.now) }
 {
     match value {
@@ -86,7 +72,7 @@ fn are_equal(paper: &Paper, other: &Paper) -> bool
     *paper == *other
 }
 
-fn is_paper(page: &Page, value: &Value) -> bool
+pub(crate) fn is_paper(page: &Page, value: &Value) -> bool
     ensures { IsTrue result ↔ (told (page_found (page_of page.now)) ≡ value.now) }
 {
     match page {

@@ -1,11 +1,9 @@
-//! The next cell that stands.
+//! The earlier of two cells.
 ghost use Rattle.std.specs.Prelude.{◌≡◌};
-ghost use Rattle.vm_content.specs.Next.{comes_before};
-ghost use Rattle.vm_committed.specs.Next.{IsNext, earlier};
+ghost use Rattle.ps_memory.specs.Next.{comes_before};
+ghost use Rattle.vm_committed.specs.Next.{earlier};
 
-use crate::cells::Cells;
-use ps_objects::{Cell, Shape, Space};
-use vm_content::next_in;
+use ps_objects::{Cell, Shape};
 
 fn comes_before(cell: Cell, other: Cell) -> bool
     ensures { result ≡ comes_before cell other }
@@ -15,7 +13,10 @@ fn comes_before(cell: Cell, other: Cell) -> bool
 }
 
 /// What comes first of a local and a global cell.
-fn earlier(local: Option<(Cell, Shape)>, global: Option<(Cell, Shape)>) -> Option<(Cell, Shape)>
+pub(crate) fn earlier(
+    local: Option<(Cell, Shape)>,
+    global: Option<(Cell, Shape)>,
+) -> Option<(Cell, Shape)>
     ensures { result ≡ earlier local global }
 {
     match local {
@@ -24,17 +25,5 @@ fn earlier(local: Option<(Cell, Shape)>, global: Option<(Cell, Shape)>) -> Optio
             _ => local,
         },
         None => global,
-    }
-}
-
-impl Cells {
-    /// The first cell that stands after another, or at all, by section and then by count, with its shape.
-    #[tactic(auto, using(crate::proofs::Nexts::both_parts))]
-    pub fn next_cell(&self, after: Option<Cell>) -> Option<(Cell, Shape)>
-        ensures { IsNext self.now after result }
-    {
-        let local = self.locals.next(after);
-        let global = next_in(&self.globals, Space::Global, after);
-        earlier(local, global)
     }
 }

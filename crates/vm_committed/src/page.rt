@@ -1,6 +1,7 @@
 //! The paper of a memory.
 
 use ps_objects::{NoMemory, Paper};
+use std::mem::replace;
 
 /// The paper, or its size in pixels while an operator has it in its hands.
 #[derive(Drop)]
@@ -10,7 +11,32 @@ pub(crate) enum Page {
 }
 
 impl Page {
-    ghost use Rattle.std.specs.Prelude.{◌≡◌, IfOk};
+    ghost use Rattle.std.specs.Prelude.{◌≡◌, true, IfOk};
+    ghost use Rattle.ps_memory.specs.Memory.{here, taken_out};
+    ghost use Rattle.vm_mem.specs.Conditions.{is_here};
+    ghost use Rattle.vm_committed.specs.Whole.{page_of};
+
+    /// Takes the paper out.
+    pub(crate) fn take(&mut self) -> Paper
+        requires { is_here (page_of self.old) ≡ true }
+        ensures paper { page_of self.old ≡ here result }
+        ensures out { page_of self.new ≡ taken_out (page_of self.old) }
+    {
+        let nowhere = Page::Out {
+            width: 0,
+            height: 0,
+        };
+        match replace(self, nowhere) {
+            Page::Here(paper) => {
+                *self = Page::Out {
+                    width: paper.width(),
+                    height: paper.height(),
+                };
+                paper
+            }
+            Page::Out { .. } => unreachable!(),
+        }
+    }
 
     pub(crate) fn copy(&self) -> Result<Page, NoMemory>
         ensures { IfOk result (λ copy. copy ≡ self.now) }

@@ -3,13 +3,14 @@ ghost use Rattle.std.specs.Prelude.{◌≡◌, [], true, OnOk, OnErr};
 ghost use Rattle.ps_memory.specs.Memory.{perform};
 ghost use Rattle.ps_memory.specs.Frame.{Allowed};
 ghost use Rattle.ps_memory.specs.Writes.{apply, Applicable};
-ghost use Rattle.vm_committed.specs.Writes.{action_of, actions};
+ghost use Rattle.vm_mem.specs.Conditions.{page_is_here};
+ghost use Rattle.vm_mem.specs.Writes.{action_of, actions};
 ghost use Rattle.vm_committed.specs.Undo.{all_taken_back, opens_none, none_opens, stays_closed};
 
 use crate::cells::Cells;
 use crate::undo::Undo;
-use crate::writes::{Write, Writes};
 use ps_objects::{NoMemory, Stack, Value};
+use vm_mem::{Write, Writes};
 
 impl Cells {
     /// Whether no save is open and no write opens one.
@@ -22,6 +23,7 @@ impl Cells {
     /// Does writes that open no save, in order from the oldest on, while none is open. Where memory runs out, what was done
     /// is taken back, which takes none.
     pub(crate) fn apply_quick(&mut self, writes: &Writes) -> Result<(), NoMemory>
+        requires here { page_is_here self.old ≡ true }
         requires none { self.old.kept ≡ [] }
         requires closed { none_opens writes.now ≡ true }
         requires applicable { Applicable (actions writes.now) self.old }
@@ -39,8 +41,9 @@ impl Cells {
     }
 
     /// Does writes, and notes how each is taken back.
-    #[tactic(auto, using(crate::proofs::Applied::next_allowed, crate::proofs::Applied::none_done, crate::proofs::TakingBack::next_closed))]
+    #[tactic(auto, using(crate::proofs::Applied::next_allowed, crate::proofs::Applied::none_done, crate::proofs::Applied::still_here, crate::proofs::TakingBack::next_closed))]
     fn do_all(&mut self, writes: &Writes, undos: &mut Stack<Undo>) -> Result<(), NoMemory>
+        requires here { page_is_here self.old ≡ true }
         requires closed { none_opens writes.now ≡ true }
         requires applicable { Applicable (actions writes.now) self.old }
         ensures ok { OnOk result (self.new ≡ apply (actions writes.now) self.old) }
@@ -56,6 +59,7 @@ impl Cells {
     /// Does a write, and notes how it is taken back.
     #[tactic(auto, using(crate::proofs::TakingBack::done_back, crate::proofs::TakingBack::undone_back, crate::proofs::TakingBack::kept_done))]
     fn do_one(&mut self, write: &Write, undos: &mut Stack<Undo>) -> Result<(), NoMemory>
+        requires here { page_is_here self.old ≡ true }
         requires closed { opens_none write.now ≡ true }
         requires allowed { Allowed (action_of write.now) self.old }
         ensures ok { OnOk result (self.new ≡ perform (action_of write.now) self.old) }

@@ -7,14 +7,14 @@ ghost use Rattle.vm_content.specs.Content.{slot_in};
 ghost use Rattle.vm_content.specs.Back.{given_back};
 ghost use Rattle.vm_committed.specs.declared.undo.Undo.TheVariants as undo;
 ghost use Rattle.vm_committed.specs.Whole.{page_of};
-ghost use Rattle.vm_committed.specs.Writes.{action_of};
+ghost use Rattle.vm_mem.specs.Writes.{action_of};
 ghost use Rattle.vm_committed.specs.Undo.{taken_back, opens_none};
 
 use crate::cells::{Cells, put_byte_in};
 use crate::page::Page;
-use crate::writes::Write;
 use ps_objects::{Cell, Loc, NoMemory, Shape, Space, Value};
 use vm_content::{Before, Bytes, forget_bytes, forget_cell, give_cell_back};
+use vm_mem::Write;
 
 /// How one write is taken back, which takes no memory.
 #[derive(Drop)]

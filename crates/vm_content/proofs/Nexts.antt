@@ -21,7 +21,8 @@ use Rattle.ps_memory.specs.Order.{cell_cmp}
 use Rattle.ps_memory.specs.Memory.{Content, whole, in_content, shape_in}
 use Rattle.ps_memory.proofs.Order.{cells_total, cell_is}
 use Rattle.vm_content.proofs.Cells.{cell_found}
-use Rattle.vm_content.specs.Next.{comes_before, is_after, is_in, bound_after, first_where, IsNextIn}
+use Rattle.vm_content.specs.Next.{is_in, bound_after, first_where, IsNextIn}
+use Rattle.ps_memory.specs.Next.{comes_before, is_after}
 
 -- ---- the first entry that passes a test
 

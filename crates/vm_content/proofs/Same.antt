@@ -14,6 +14,7 @@ use Rattle.ps_objects.specs.declared.key.Key.TheVariants as key
 use Rattle.ps_objects.specs.declared.object.Kind.{Kind}
 use Rattle.ps_objects.specs.declared.object.Kind.TheVariants as kind
 use Rattle.ps_objects.specs.declared.object.Object.{Object}
+use Rattle.ps_objects.specs.declared.objects.Interval.{Interval}
 use Rattle.ps_objects.specs.contracts.access.AccessPartialEq.TheImpl as access_eq
 use Rattle.ps_objects.specs.contracts.cell.SpacePartialEq.TheImpl as space_eq
 use Rattle.ps_objects.specs.contracts.cell.CellPartialEq.TheImpl as cell_eq
@@ -21,6 +22,7 @@ use Rattle.ps_objects.specs.contracts.cell.SaveNamePartialEq.TheImpl as save_eq
 use Rattle.ps_objects.specs.contracts.key.KeyPartialEq.TheImpl as key_eq
 use Rattle.ps_objects.specs.contracts.object.KindPartialEq.TheImpl as kind_eq
 use Rattle.ps_objects.specs.contracts.object.ObjectPartialEq.TheImpl as object_eq
+use Rattle.ps_objects.specs.contracts.objects.IntervalPartialEq.TheImpl as interval_eq
 use Rattle.ps_objects.specs.contracts.key.KeyEq.TheImpl.Laws as key_laws
 use Rattle.ps_objects.specs.contracts.object.ObjectEq.TheImpl.Laws as object_laws
 
@@ -52,6 +54,15 @@ cell_exact x y e =
     let c = space_exact x.space y.space q.1 in
     λ i. record { section = a i; count = b i; space = c i }
 
+interval_exact : (x y : Interval) → interval_eq.ghosts.eq x y ≡ true → x ≡ y
+interval_exact x y e =
+    let p = both _ _ e in
+    let q = both _ _ p.1 in
+    let a = cell_exact x.cell y.cell p.0 in
+    let b = (unsigned_Decides x.start y.start).0 q.0 in
+    let c = (unsigned_Decides x.len y.len).0 q.1 in
+    λ i. record { cell = a i; start = b i; len = c i }
+
 save_exact : (x y : SaveName) → save_eq.ghosts.eq x y ≡ true → x ≡ y
 save_exact x y e =
     let p = both _ _ e in
@@ -67,22 +78,12 @@ kind_exact kind.Null kind.Null e = refl
 kind_exact kind.Mark kind.Mark e = refl
 kind_exact (kind.Name a) (kind.Name b) e = ap kind.Name ((pointwise_decides unsigned_Decides a b).0 e)
 kind_exact (kind.Operator a) (kind.Operator b) e = ap kind.Operator ((unsigned_Decides a b).0 e)
-kind_exact (kind.Str a i j) (kind.Str b k l) e =
+kind_exact (kind.Str a) (kind.Str b) e = ap kind.Str (interval_exact a b e)
+kind_exact (kind.Array a p) (kind.Array b q) e =
     let x = both _ _ e in
-    let y = both _ _ x.1 in
-    let c = cell_exact a b x.0 in
-    let m = (unsigned_Decides i k).0 y.0 in
-    let n = (unsigned_Decides j l).0 y.1 in
-    λ w. kind.Str (c w) (m w) (n w)
-kind_exact (kind.Array a i j p) (kind.Array b k l q) e =
-    let x = both _ _ e in
-    let y = both _ _ x.1 in
-    let z = both _ _ y.1 in
-    let c = cell_exact a b x.0 in
-    let m = (unsigned_Decides i k).0 y.0 in
-    let n = (unsigned_Decides j l).0 z.0 in
-    let r = (booleans_Decides p q).0 z.1 in
-    λ w. kind.Array (c w) (m w) (n w) (r w)
+    let m = interval_exact a b x.0 in
+    let r = (booleans_Decides p q).0 x.1 in
+    λ w. kind.Array (m w) (r w)
 kind_exact (kind.Dict a) (kind.Dict b) e = ap kind.Dict (cell_exact a b e)
 kind_exact (kind.File a) (kind.File b) e = ap kind.File ((unsigned_Decides a b).0 e)
 kind_exact (kind.Filter a i) (kind.Filter b j) e =
@@ -110,15 +111,11 @@ key_exact (key.Real a) (key.Real b) e = λ i. key.Real (record { count = (signed
 key_exact (key.Boolean a) (key.Boolean b) e = ap key.Boolean ((booleans_Decides a b).0 e)
 key_exact (key.Operator a) (key.Operator b) e = ap key.Operator ((unsigned_Decides a b).0 e)
 key_exact (key.Dict a) (key.Dict b) e = ap key.Dict (cell_exact a b e)
-key_exact (key.Array a i j p) (key.Array b k l q) e =
+key_exact (key.Array a p) (key.Array b q) e =
     let x = both _ _ e in
-    let y = both _ _ x.1 in
-    let z = both _ _ y.1 in
-    let c = cell_exact a b x.0 in
-    let m = (unsigned_Decides i k).0 y.0 in
-    let n = (unsigned_Decides j l).0 z.0 in
-    let r = (booleans_Decides p q).0 z.1 in
-    λ w. key.Array (c w) (m w) (n w) (r w)
+    let m = interval_exact a b x.0 in
+    let r = (booleans_Decides p q).0 x.1 in
+    λ w. key.Array (m w) (r w)
 key_exact (key.File a i) (key.File b j) e =
     let x = both _ _ e in
     let m = (unsigned_Decides a b).0 x.0 in

@@ -1,6 +1,5 @@
 -- The next cell of a map.
 use Rattle.std.specs.Prelude.{◌≡◌, ◌≢◌, Bool, true, false, not, cond, List, [], ◌∷◌, Option, Some, None}
-use Rattle.std.specs.Ordering.{nat_cmp, is_lt, ordering_then}
 use Rattle.std.specs.FinMap.{get}
 use Rattle.std.specs.declared.ops.Bound.{Bound}
 use Rattle.std.specs.declared.ops.Bound.TheVariants.{Unbounded, Excluded}
@@ -9,14 +8,7 @@ use Rattle.ps_objects.specs.declared.cell.Space.{Space}
 use Rattle.ps_objects.specs.declared.cell.Space.TheVariants.{Local, Global}
 use Rattle.ps_objects.specs.declared.place.Shape.{Shape}
 use Rattle.ps_memory.specs.Memory.{is_global, Cells, whole, in_content, shape_in}
-
--- by section, then by count, whatever the spaces
-abbrev pub comes_before : Cell → Cell → Bool
-comes_before c d = is_lt (ordering_then (nat_cmp c.section d.section) (nat_cmp c.count d.count))
-
-abbrev pub is_after : Option Cell → Cell → Bool
-is_after None d = true
-is_after (Some c) d = comes_before c d
+use Rattle.ps_memory.specs.Next.{comes_before, is_after}
 
 abbrev pub is_in : Space → Cell → Bool
 is_in Local c = not (is_global c)

@@ -185,8 +185,9 @@ impl Duplicate for Content {
 
 // The parts of a cell, one by one.
 impl Content {
+    /// The object under a key.
     #[tactic(auto, using(crate::proofs::Keyed::entry_found))]
-    fn entry(&self, key: &Key) -> Option<&Object>
+    pub fn entry(&self, key: &Key) -> Option<&Object>
         ensures { object_found (option_copied result) ≡ in_content (Some self.now) (entry key.now) }
     {
         match &self.inner {
@@ -195,7 +196,8 @@ impl Content {
         }
     }
 
-    fn item(&self, place: u32) -> Option<&Object>
+    /// The object at a place of an array.
+    pub fn item(&self, place: u32) -> Option<&Object>
         ensures { object_found (option_copied result) ≡ in_content (Some self.now) (item place) }
     {
         match &self.inner {

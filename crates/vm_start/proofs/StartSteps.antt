@@ -4,13 +4,14 @@ use Rattle.std.specs.Prelude.{codes, false}
 use Rattle.std.specs.Map.{lookup}
 use Rattle.std.specs.BTreeMap.{is_at}
 use Rattle.std.specs.FinMap.{FinMap, from_entries, insert, empty}
+use Rattle.ps_names.specs.declared.places.TheConstants.{FIRST_DEFAULT_ENTRY, OPERATOR_COUNT}
 use Rattle.ps_objects.specs.declared.cell.Cell.{Cell}
 use Rattle.ps_objects.specs.declared.access.Access.TheVariants.{Unlimited, ReadOnly}
 use Rattle.ps_objects.specs.declared.key.Key.{Key}
 use Rattle.ps_objects.specs.declared.key.Key.TheVariants as key
 use Rattle.ps_objects.specs.declared.object.Object.{Object}
 use Rattle.ps_objects.specs.declared.object.Kind.TheVariants as kind
-use Rattle.ps_objects.specs.OperatorNames.{operator_names}
+use Rattle.ps_names.specs.Operators.{operator_names}
 use Rattle.ps_memory.specs.Order.{cell_cmp, key_cmp}
 use Rattle.ps_memory.specs.Memory.{Content, Cells, dictionary}
 use Rattle.ps_memory.proofs.Order.{cells_total, keys_total, cells_antisymmetric, keys_antisymmetric}
@@ -78,11 +79,11 @@ entries_joined : (xs ys : List (Key × Object)) → from_entries {R = key_cmp} (
 entries_joined [] ys = refl
 entries_joined (x ∷ xs) ys = ap (λ m. insert m x.0 x.1) (entries_joined xs ys)
 
-pub system_made : (d : Content) (m k : FinMap key_cmp Object) → d ≡ dictionary 0 ReadOnly k → k ≡ with_entries system_values m → m ≡ from_entries (operators_between 0 219) → d ≡ dictionary 0 ReadOnly system_map
+pub system_made : (d : Content) (m k : FinMap key_cmp Object) → d ≡ dictionary 0 ReadOnly k → k ≡ with_entries system_values m → m ≡ from_entries (operators_between 0 FIRST_DEFAULT_ENTRY) → d ≡ dictionary 0 ReadOnly system_map
 unfolding operators_between system_map
-system_made d m k g f e = g ∙ ap (dictionary 0 ReadOnly) (f ∙ ap (with_entries system_values) e ∙ sym (entries_joined system_values (numbered 0 (take 219 operator_names))))
+system_made d m k g f e = g ∙ ap (dictionary 0 ReadOnly) (f ∙ ap (with_entries system_values) e ∙ sym (entries_joined system_values (numbered 0 (take FIRST_DEFAULT_ENTRY operator_names))))
 
-pub errors_made : (d : Content) (m : FinMap key_cmp Object) → d ≡ dictionary 0 Unlimited m → m ≡ from_entries (operators_between 219 239) → d ≡ dictionary 0 Unlimited error_map
+pub errors_made : (d : Content) (m : FinMap key_cmp Object) → d ≡ dictionary 0 Unlimited m → m ≡ from_entries (operators_between FIRST_DEFAULT_ENTRY OPERATOR_COUNT) → d ≡ dictionary 0 Unlimited error_map
 unfolding operators_between error_map
 errors_made d m g e = g ∙ ap (dictionary 0 Unlimited) e
 

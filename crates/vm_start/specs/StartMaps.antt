@@ -3,7 +3,7 @@ use Rattle.std.specs.Prelude.{ℕ, List, [], ◌∷◌, take, drop}
 use Rattle.std.specs.FinMap.{FinMap, from_entries, insert}
 use Rattle.ps_objects.specs.declared.key.Key.{Key}
 use Rattle.ps_objects.specs.declared.object.Object.{Object}
-use Rattle.ps_objects.specs.OperatorNames.{operator_names}
+use Rattle.ps_names.specs.Operators.{operator_names}
 use Rattle.ps_memory.specs.Order.{key_cmp}
 use Rattle.ps_meaning.specs.Start.{numbered, system_entries, error_entries}
 

@@ -9,8 +9,9 @@ ghost use Rattle.ps_memory.specs.Memory.{dictionary, items, characters};
 ghost use Rattle.ps_meaning.specs.Start.{literal, operator, read_only_string, system_values, error_record_entries, start_locals, start_globals, start_strings};
 ghost use Rattle.vm_start.specs.StartMaps.{with_entries, operators_between, system_map, error_map};
 
+use ps_names::places::{FIRST_DEFAULT_ENTRY, OPERATOR_COUNT};
 use ps_objects::{
-    Access, Cell, FIRST_DEFAULT_ENTRY, Key, Kind, Name, NoMemory, OPERATOR_COUNT, Object, Op,
+    Access, Cell, Interval, Key, Kind, Name, NoMemory, Object, Op,
     Shape, Space, op_name,
 };
 use std::alloc::Global;
@@ -113,12 +114,12 @@ fn put(alloc: Global, entries: &mut Entries, name: &[u8], object: Object) -> Res
 #[tactic(auto, using(crate::proofs::StartSteps::none_put))]
 fn operators(alloc: Global, from: u16, to: u16) -> Result<Entries, NoMemory>
     requires order { from ≤ to }
-    requires listed { to ≤ 239 }
+    requires listed { to ≤ OPERATOR_COUNT }
     ensures { IfOk result (λ entries. from_entries {R = key_cmp} entries.entries ≡ from_entries (operators_between from to)) }
 {
     let mut entries = BTreeMap::new(alloc);
     for index in (from..to).rev() {
-        let op = Op { index };
+        let op = Op::at(index);
         put(alloc, &mut entries, op_name(op), operator(op))?;
     }
     Ok(entries)
@@ -184,11 +185,11 @@ fn read_only_string(cell: Cell) -> Object
     ensures { result ≡ read_only_string cell }
 {
     Object {
-        kind: Kind::Str {
+        kind: Kind::Str(Interval {
             cell,
             start: 0,
             len: 8,
-        },
+        }),
         exec: false,
         access: Access::ReadOnly,
     }

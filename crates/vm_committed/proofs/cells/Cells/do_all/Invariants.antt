@@ -1,6 +1,6 @@
 use Rattle.std.proofs.Common.{◌≡◌, drop}
 use Rattle.ps_memory.specs.Writes.{apply}
-use Rattle.vm_committed.specs.Writes.{actions}
+use Rattle.vm_mem.specs.Writes.{actions}
 use Rattle.vm_committed.specs.Undo.{all_taken_back}
 use Rattle.vm_committed.proofs.cells.Cells.do_all.Given as goal
 

@@ -1,0 +1,11 @@
+pub mod Basics
+pub mod Frame
+pub mod Hands
+pub mod Drawing
+pub mod Looking
+pub mod Roster
+pub mod OnPlace
+pub mod Laying
+pub mod Taking
+pub mod Counting
+pub mod Promise

@@ -1,0 +1,6 @@
+pub mod Faults
+pub mod Keeping
+pub mod Kept
+pub mod Texts
+pub mod ToSinks
+pub mod Writing

@@ -1,0 +1,3 @@
+pub mod ErrorName
+pub mod Op
+pub mod Operators

@@ -1,0 +1,9 @@
+pub mod Stack
+pub mod Numbers
+pub mod Arithmetic
+pub mod Rounding
+pub mod Functions
+pub mod Random
+pub mod Comparison
+pub mod Bits
+pub mod Operators
