@@ -91,14 +91,14 @@ finds_no_digit so_far old new End h y = record { code_is = sym (ap first_digit y
 finds_no_digit so_far old new Bad h y = record { code_is = sym (ap first_digit y.0); leaves = tt }
 
 -- `>` is no digit
-end_is_no_digit : (b : ℕ) → nat_lt (digit_value b) 16 ≡ true → (b == 62) ≡ false
+pub end_is_no_digit : (b : ℕ) → nat_lt (digit_value b) 16 ≡ true → (b == 62) ≡ false
 end_is_no_digit b h =
     ⊎_elim
     (λ t. absurd (let e : b ≡ 62 = eqb-true b 62 t in let no : true ≡ false = sym h ∙ ap (λ n. nat_lt (digit_value n) 16) e in cc))
     (λ f. f)
     (cases_Bool (b == 62))
 
-first_is : (first : ℕ) (old middle : Rest) → past_white old ≡ byte first middle → nat_lt (digit_value first) 16 ≡ true
+pub first_is : (first : ℕ) (old middle : Rest) → past_white old ≡ byte first middle → nat_lt (digit_value first) 16 ≡ true
     → first_digit (past_white old) ≡ second_digit (digit_value first) (past_white middle)
 first_is first old middle y h =
     ap first_digit y

@@ -2,6 +2,7 @@ pub mod CodeLemmas
 pub mod DecodedLemmas
 pub mod FoundLemmas
 pub mod GiveLemmas
+pub mod Laws
 pub mod Readings
 pub mod RunLemmas
 pub mod SourceLemmas

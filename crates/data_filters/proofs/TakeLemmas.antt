@@ -234,7 +234,7 @@ pub taken_some : (text : List ℕ) (k : ℕ) (kind : FilterKind) (below : Source
 taken_some text k kind below call reading middle new bytes taken b standing begun standings at some is begin held settles =
     let stands : begun ≡ code_begun (standing_at reading k).given bytes = begin ∙ ap (λ (x : Standing). code_begun x.given bytes) (sym (standing_is reading k standing at)) in
     let put_is : record middle { standings = standings } ≡ put k (code_begun (standing_at reading k).given bytes) middle =
-        ap (λ (x : List Standing). record middle { standings = x }) held ∙ ap (λ x. put k x middle) stands
+    ap (λ (x : List Standing). record middle { standings = x }) held ∙ ap (λ x. put k x middle) stands
     in
     begun_some text k kind below call reading bytes taken b some
     ∙ ap (λ r. (Byte b, settled text k kind below call (put k (code_begun (standing_at reading k).given bytes) r))) (sym is)

@@ -2,11 +2,16 @@
 #![tactic(auto)]
 
 mod ahead;
+mod calls;
 mod code;
 mod digits;
 mod found;
 mod give;
 mod given;
+mod law;
 mod reading;
 
+pub use calls::{add, close, has_ended, next};
+pub use filter_tower::{FilterKind, NoMemory, Tower};
 pub use given::Given;
+pub use law::filters_law;

@@ -6,6 +6,6 @@ mod standing;
 mod tower;
 
 pub use code::CodeBytes;
-pub use copy_lists::{NoMemory, Sequence, Text};
-pub use standing::{FilterState, Standing, Standings};
-pub use tower::{FilterKind, FilterLayer};
+pub use copy_lists::{NoMemory, Text};
+pub use standing::{FilterState, Room, Standing, Standings};
+pub use tower::{FilterKind, FilterLayer, FilterLayers, Tower};

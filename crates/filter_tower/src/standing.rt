@@ -1,9 +1,10 @@
 //! Where the layers of a tower stand.
-ghost use Rattle.std.specs.Prelude.{◌≡◌, ◌<◌, ◌==◌, [], ◌∷◌, ◌++◌, length, slice_get, slice_set, Some, OnOk, OnErr};
+ghost use Rattle.std.specs.Prelude.{◌≡◌, ◌<◌, ◌==◌, [], ◌∷◌, ◌++◌, ◌+◌, ◌-◌, length, take, slice_get, slice_set, Some, OnOk, OnErr};
 
 use crate::{CodeBytes, NoMemory};
 use std::alloc::Global;
 use std::marker::Model;
+use std::mem;
 
 /// Whether a layer still takes codes from its source, has come to its end or was closed, or has met a wrong byte.
 #[derive(Clone, Copy, PartialEq, Eq)]
@@ -111,5 +112,59 @@ impl Standings {
     {
         self.items.push(standing)?;
         Ok(())
+    }
+
+    /// Takes away where the last layer stands, if there is one.
+    pub fn drop_last(&mut self)
+        ensures { self.new ≡ take (length self.old - 1) self.old }
+    {
+        let _last = self.items.pop();
+    }
+}
+
+/// Room for where so many layers stand, for reading ahead of them.
+#[derive(Drop)]
+pub struct Room {
+    standings: Standings,
+}
+
+impl Model for Room {
+    ghost use Rattle.std.specs.Prelude.{ℕ, length};
+
+    ghost Value = { ℕ };
+
+    ghost view = { λ room. length room.standings };
+}
+
+impl Room {
+    pub fn new(alloc: Global) -> Room
+        ensures { result ≡ 0 }
+    {
+        Room {
+            standings: Standings::new(alloc),
+        }
+    }
+
+    /// Makes room for one layer more. Where memory runs out all is as it was.
+    pub fn grow(&mut self) -> Result<(), NoMemory>
+        ensures ok { OnOk result (self.new ≡ self.old + 1) }
+        ensures err { OnErr result (self.new ≡ self.old) }
+    {
+        self.standings.push(Standing::empty(FilterState::Ended))
+    }
+
+    /// Takes the room out, and leaves none.
+    pub fn take(&mut self, alloc: Global) -> Standings
+        ensures taken { length result ≡ self.old }
+        ensures none { self.new ≡ 0 }
+    {
+        mem::replace(&mut self.standings, Standings::new(alloc))
+    }
+
+    /// Puts room back.
+    pub fn put(&mut self, standings: Standings)
+        ensures { self.new ≡ length standings }
+    {
+        self.standings = standings;
     }
 }

@@ -19,25 +19,25 @@ pub give-returns-in-Some-clause-given : goal.give-returns-in-Some-clause-given
 give-returns-in-Some-clause-given t c =
     let up : c.args.source ≡ suc (c.args.source - 1) = omega (arith, c.if-source-eq0.false) in
     gives_pending c.args.text.now c.args.layers.now c.args.source (c.args.source - 1) c.in-Some.byte c.args.now.now c.pending_byte.new.self c.settle.new.now
-        c.requires.tower c.requires.stands up c.in-Some.ensures c.settle.ensures.settled
+    c.requires.tower c.requires.stands up c.in-Some.ensures c.settle.ensures.settled
 
 pub give-returns-in-Ended-clause-given : goal.give-returns-in-Ended-clause-given
 give-returns-in-Ended-clause-given t c =
     let up : c.args.source ≡ suc (c.args.source - 1) = omega (arith, c.if-source-eq0.false) in
     gives_end c.args.text.now c.args.layers.now c.args.source (c.args.source - 1) c.args.now.now c.pending_byte.new.self c.at.result.now
-        c.requires.tower c.requires.stands up c.in_default.ensures c.at.ensures c.in-Ended.is
+    c.requires.tower c.requires.stands up c.in_default.ensures c.at.ensures c.in-Ended.is
 
 pub give-returns-in-Failed-clause-given : goal.give-returns-in-Failed-clause-given
 give-returns-in-Failed-clause-given t c =
     let up : c.args.source ≡ suc (c.args.source - 1) = omega (arith, c.if-source-eq0.false) in
     gives_fault c.args.text.now c.args.layers.now c.args.source (c.args.source - 1) c.args.now.now c.pending_byte.new.self c.at.result.now
-        c.requires.tower c.requires.stands up c.in_default.ensures c.at.ensures c.in-Failed.is
+    c.requires.tower c.requires.stands up c.in_default.ensures c.at.ensures c.in-Failed.is
 
 pub give-returns-in-Open-clause-given : goal.give-returns-in-Open-clause-given
 give-returns-in-Open-clause-given t c =
     let up : c.args.source ≡ suc (c.args.source - 1) = omega (arith, c.if-source-eq0.false) in
     gives_code c.args.text.now c.args.layers.now c.args.source (c.args.source - 1) c.args.now.now c.pending_byte.new.self c.take_code.new.now c.at.result.now c.take_code.result
-        c.requires.tower c.requires.stands up c.in_default.ensures c.at.ensures c.in-Open.is c.take_code.ensures.given
+    c.requires.tower c.requires.stands up c.in_default.ensures c.at.ensures c.in-Open.is c.take_code.ensures.given
 
 pub settle-returns-then-not-is_spent-clause-settled : goal.settle-returns-then-not-is_spent-clause-settled
 settle-returns-then-not-is_spent-clause-settled t c = settled_not_at c.args.text.now c.args.layer (kind_at c.args.layers.now c.args.layer) (source_below c.args.layers.now c.args.layer) (give c.args.text.now (source_below c.args.layers.now c.args.layer)) c.args.now.now c.at.result.now c.at.ensures c.if-not-is_spent.ensures
@@ -63,7 +63,7 @@ take-bytes-smaller t c =
     let below = below_source c.args.layers.now c.args.layer c.index-layers-layer.result c.requires.stands in
     let room : length c.args.layers.now ≤ length c.bytes.now.standings = omega (arith, c.requires.now, c.bytes.invariant.same) in
     (one_taken c.args.text.now c.args.layers.now c.args.layer c.in-Byte.byte (kind_at c.args.layers.now c.args.layer) c.bytes.left c.bytes.now c.give.new.now
-        c.requires.tower c.requires.stands room (sym c.bytes-test.ensures) (ap (λ s. give c.args.text.now s c.bytes.now) (sym below) ∙ c.in-Byte.ensures.given)).1
+    c.requires.tower c.requires.stands room (sym c.bytes-test.ensures) (ap (λ s. give c.args.text.now s c.bytes.now) (sym below) ∙ c.in-Byte.ensures.given)).1
 
 pub take-bytes-preserved : goal.take-bytes-preserved
 take-bytes-preserved t c =
@@ -75,7 +75,7 @@ take-bytes-preserved t c =
       ahead = c.give.ensures.ahead ∙ c.gives_byte.ensures.same ∙ c.bytes.invariant.ahead;
       taken =
           rw left (one_taken c.args.text.now c.args.layers.now c.args.layer c.in-Byte.byte (kind_at c.args.layers.now c.args.layer) c.bytes.left c.bytes.now c.give.new.now
-              c.requires.tower c.requires.stands room (sym c.bytes-test.ensures) (ap (λ s. give c.args.text.now s c.bytes.now) (sym below) ∙ c.in-Byte.ensures.given)).0
+          c.requires.tower c.requires.stands room (sym c.bytes-test.ensures) (ap (λ s. give c.args.text.now s c.bytes.now) (sym below) ∙ c.in-Byte.ensures.given)).0
           ∙ c.bytes.invariant.taken;
     }
 
@@ -84,16 +84,16 @@ take-returns-in-End-clause-taken t c =
     let below = below_source c.args.layers.now c.args.layer c.index-layers-layer.result c.requires.stands in
     let room : length c.args.layers.now ≤ length c.bytes.now.standings = omega (arith, c.requires.now, c.bytes.invariant.same) in
     absurd (no_end c.args.text.now c.args.layers.now c.args.layer c.bytes.now c.give.new.now c.requires.tower c.requires.stands room
-        (ap (λ s. has_byte (rest c.args.text.now s c.bytes.now)) (sym below) ∙ sym c.if-not-gives_byte.ensures.value)
-        (ap (λ s. give c.args.text.now s c.bytes.now) (sym below) ∙ c.in-End.ensures.given))
+    (ap (λ s. has_byte (rest c.args.text.now s c.bytes.now)) (sym below) ∙ sym c.if-not-gives_byte.ensures.value)
+    (ap (λ s. give c.args.text.now s c.bytes.now) (sym below) ∙ c.in-End.ensures.given))
 
 pub take-returns-in-Bad-clause-taken : goal.take-returns-in-Bad-clause-taken
 take-returns-in-Bad-clause-taken t c =
     let below = below_source c.args.layers.now c.args.layer c.index-layers-layer.result c.requires.stands in
     let room : length c.args.layers.now ≤ length c.bytes.now.standings = omega (arith, c.requires.now, c.bytes.invariant.same) in
     absurd (no_fault c.args.text.now c.args.layers.now c.args.layer c.bytes.now c.give.new.now c.requires.tower c.requires.stands room
-        (ap (λ s. has_byte (rest c.args.text.now s c.bytes.now)) (sym below) ∙ sym c.if-not-gives_byte.ensures.value)
-        (ap (λ s. give c.args.text.now s c.bytes.now) (sym below) ∙ c.in-Bad.ensures.given))
+    (ap (λ s. has_byte (rest c.args.text.now s c.bytes.now)) (sym below) ∙ sym c.if-not-gives_byte.ensures.value)
+    (ap (λ s. give c.args.text.now s c.bytes.now) (sym below) ∙ c.in-Bad.ensures.given))
 
 pub take_code-returns-in_default-clause-given : goal.take_code-returns-in_default-clause-given
 take_code-returns-in_default-clause-given t c =
@@ -105,8 +105,8 @@ pub take_code-returns-in-Some-clause-given : goal.take_code-returns-in-Some-clau
 take_code-returns-in-Some-clause-given t c =
     ap (code_taken c.args.text.now c.args.layer (kind_at c.args.layers.now c.args.layer) (source_below c.args.layers.now c.args.layer) (give c.args.text.now (source_below c.args.layers.now c.args.layer)) c.args.now.now) (sym c.in-Gives.ensures.value)
     ∙ taken_some c.args.text.now c.args.layer (kind_at c.args.layers.now c.args.layer) (source_below c.args.layers.now c.args.layer) (give c.args.text.now (source_below c.args.layers.now c.args.layer))
-        c.args.now.now c.take.new.now c.settle.new.now c.in-Gives.bytes c.in-Gives.taken c.in-Some.first c.at.result.now c.code_begun.result c.put-in-Gives.new.self
-        c.at.ensures c.in-Some.ensures c.take.ensures.taken c.code_begun.ensures c.put-in-Gives.ensures c.settle.ensures.settled
+    c.args.now.now c.take.new.now c.settle.new.now c.in-Gives.bytes c.in-Gives.taken c.in-Some.first c.at.result.now c.code_begun.result c.put-in-Gives.new.self
+    c.at.ensures c.in-Some.ensures c.take.ensures.taken c.code_begun.ensures c.put-in-Gives.ensures c.settle.ensures.settled
 
 pub take_code-returns-in-Ends-clause-given : goal.take_code-returns-in-Ends-clause-given
 take_code-returns-in-Ends-clause-given t c =
