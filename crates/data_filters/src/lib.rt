@@ -10,6 +10,8 @@ mod give;
 mod given;
 mod law;
 mod reading;
+#[cfg(test)]
+mod tests;
 
 pub use calls::{add, close, has_ended, next};
 pub use filter_tower::{FilterKind, NoMemory, Tower};
