@@ -1,14 +1,14 @@
 -- Codes.
-use Rattle.std.proofs.Common.{◌≡◌, ◌⊎◌, ℕ, zero, suc, ◌+◌, ◌-◌, ◌*◌, ◌^◌, ◌<◌, ◌≤◌, Bool, true, false, List, [], ◌∷◌, ◌++◌, length, take, refl, sym, ap, subst, ◌∙◌, arith, lit≤, ⊎_elim, Option, Some, None}
-use Rattle.std.specs.Prelude.{◌==◌, ◌&&◌, not, nat_lt, cond, replicate}
+use Rattle.std.proofs.Common.{◌≡◌, ℕ, zero, suc, ◌+◌, ◌-◌, ◌*◌, ◌^◌, ◌≤◌, Bool, true, false, List, [], ◌∷◌, refl, sym, ap, ◌∙◌, arith, lit≤, ⊎_elim, Option, Some, None}
+use Rattle.std.specs.Prelude.{◌==◌, ◌&&◌, not, nat_lt, cond}
 use Rattle.std.specs.Char.{digit_value}
-use Rattle.std.proofs.lemmas.Bool.{cases_Bool, cond-true, cond-false, eqb-true}
+use Rattle.std.proofs.lemmas.Bool.{cases_Bool, cond-false, eqb-true}
 use Rattle.filter_tower.specs.declared.tower.FilterKind.{FilterKind}
 use Rattle.filter_tower.specs.declared.tower.FilterKind.TheVariants.{Hex, Base85, RunLength, SubFile}
 use Rattle.data_filters.specs.declared.code.Code.{Code}
 use Rattle.data_filters.specs.declared.code.Code.TheVariants.{Gives, Ends, EndsWithSource, Wrong}
 use Rattle.data_filters.specs.Rests.{Rest, byte, ended, broken, behind}
-use Rattle.data_filters.specs.Codes.{is_white, passes, past_white, second_digit, first_digit, is_character, word_of, padded, cut_group, tilde, character, group, front, literal_of, literal, repeated, run, one, begins_with, part, code}
+use Rattle.data_filters.specs.Codes.{is_white, past_white, second_digit, first_digit, is_character, padded, cut_group, tilde, character, group, front, literal_of, repeated, run, one, begins_with, part, code}
 
 pub differs : (n m : ℕ) → (n ≡ m → ⊥) → (n == m) ≡ false
 differs n m h = ⊎_elim (λ t. absurd (h (eqb-true n m t))) (λ f. f) (cases_Bool (n == m))

@@ -1,20 +1,19 @@
 -- What is found where a code is read ahead is the code.
-use Rattle.std.proofs.Common.{◌≡◌, ◌⊎◌, ℕ, zero, suc, ◌+◌, ◌-◌, ◌*◌, ◌^◌, ◌<◌, ◌≤◌, Bool, true, false, List, [], ◌∷◌, ◌++◌, length, take, refl, sym, ap, subst, ◌∙◌, arith, lit≤, lit<, ⊎_elim, Option, Some, None}
-use Rattle.std.specs.Prelude.{◌==◌, ◌&&◌, not, nat_lt, cond, replicate, if◌then◌else◌}
+use Rattle.std.proofs.Common.{◌≡◌, ℕ, zero, suc, ◌+◌, ◌-◌, ◌*◌, ◌^◌, ◌<◌, ◌≤◌, Bool, true, false, [], ◌∷◌, take, refl, sym, ap, subst, ◌∙◌, arith, lit≤, lit<, ⊎_elim}
+use Rattle.std.specs.Prelude.{◌==◌, ◌&&◌, nat_lt, cond, if◌then◌else◌}
 use Rattle.std.specs.Char.{digit_value}
 use Rattle.std.proofs.lemmas.Bool.Decides.{nat_tests}
 use Rattle.std.proofs.lemmas.Bool.{cases_Bool, cond-true, cond-false, eqb-true, lt-ltb}
 use Rattle.filter_tower.specs.declared.tower.FilterKind.{FilterKind}
-use Rattle.filter_tower.specs.declared.tower.FilterKind.TheVariants.{Hex, Base85, RunLength, SubFile}
+use Rattle.filter_tower.specs.declared.tower.FilterKind.TheVariants.{Hex, Base85}
 use Rattle.data_filters.specs.declared.given.Given.{Given}
 use Rattle.data_filters.specs.declared.given.Given.TheVariants.{Byte, End, Bad}
 use Rattle.data_filters.specs.declared.code.Code.{Code}
 use Rattle.data_filters.specs.declared.code.Code.TheVariants.{Gives, Ends, EndsWithSource, Wrong}
-use Rattle.data_filters.specs.declared.code.Found.{Found}
-use Rattle.data_filters.specs.Rests.{Rest, byte, ended, broken, behind, onto, Yields}
-use Rattle.data_filters.specs.Codes.{is_white, passes, past_white, second_digit, first_digit, is_character, word_of, padded, cut_group, tilde, character, group, front, in_front, literal_of, literal, repeated, run, one, begins_with, part, code}
-use Rattle.data_filters.specs.Decoded.{more_given, through, decoded}
-use Rattle.data_filters.specs.Found.{Leaves, Finds, whole, cut, without_digit, behind_digit, without_character, behind_tilde, behind_length, by_itself}
+use Rattle.data_filters.specs.Rests.{Rest, byte, ended, broken, behind, Yields}
+use Rattle.data_filters.specs.Codes.{is_white, past_white, second_digit, first_digit, is_character, word_of, padded, cut_group, tilde, character, group, code}
+use Rattle.data_filters.specs.Decoded.{through, decoded}
+use Rattle.data_filters.specs.Found.{Leaves, Finds, whole, cut, without_digit, behind_digit, without_character, behind_tilde}
 use Rattle.data_filters.proofs.CodeLemmas.{behind_one}
 use Rattle.data_filters.proofs.DecodedLemmas.{decoded_through, ended_through}
 

@@ -1,6 +1,6 @@
 -- What a source gives is what it would still give.
-use Rattle.std.proofs.Common.{◌≡◌, ◌⊎◌, ℕ, zero, suc, ◌+◌, ◌-◌, ◌<◌, ◌≤◌, Bool, true, false, List, [], ◌∷◌, ◌++◌, length, drop, refl, sym, ap, subst, ◌∙◌, arith, ⊎_elim, Option, Some, None, drop_of_length-le, drop-drop}
-use Rattle.std.specs.Prelude.{nat_le, nat_lt, ◌&&◌, cond, slice_set, if◌then◌else◌}
+use Rattle.std.proofs.Common.{◌≡◌, ℕ, zero, suc, ◌+◌, ◌<◌, ◌≤◌, Bool, true, false, List, [], ◌∷◌, length, drop, refl, sym, ap, subst, ◌∙◌, arith, ⊎_elim, Some, drop_of_length-le, drop-drop}
+use Rattle.std.specs.Prelude.{nat_le, nat_lt, ◌&&◌}
 use Rattle.std.proofs.lemmas.Bool.{cases_Bool, cond-true, cond-false, leb-true}
 use Rattle.std.proofs.lemmas.List.{length-set}
 use Rattle.filter_tower.specs.declared.tower.FilterKind.{FilterKind}
@@ -13,9 +13,9 @@ use Rattle.data_filters.specs.declared.code.Code.{Code}
 use Rattle.data_filters.specs.declared.code.Code.TheVariants.{Gives, Ends, EndsWithSource, Wrong}
 use Rattle.data_filters.specs.declared.reading.Reading.{Reading}
 use Rattle.data_filters.specs.Rests.{Rest, byte, ended, broken, onto, reach, behind, size, Yields}
-use Rattle.data_filters.specs.Codes.{passes, code, taken_by, length_taken}
-use Rattle.data_filters.specs.Decoded.{more_given, through, decoded}
-use Rattle.data_filters.specs.Layers.{Source, the_text, over, Call, pending, standing_at, put, at_end, at_fault, behind_code, still, rest, taking, taken_from, end_taken, is_open, is_spent, settled, code_begun, code_taken, byte_passed, gives_by, layer_gives, text_gives, give}
+use Rattle.data_filters.specs.Codes.{passes, code, length_taken}
+use Rattle.data_filters.specs.Decoded.{through, decoded}
+use Rattle.data_filters.specs.Layers.{Source, the_text, over, Call, pending, standing_at, put, at_end, at_fault, behind_code, rest, taking, taken_from, end_taken, is_open, is_spent, settled, code_begun, code_taken, byte_passed, gives_by, text_gives, give}
 use Rattle.data_filters.proofs.CodeLemmas.{IsSound, sound}
 use Rattle.data_filters.proofs.DecodedLemmas.{decoded_through, later}
 use Rattle.data_filters.proofs.SourceLemmas.{IsBelow, text_yields, rest_over, rest_over_put, rest_ended, rest_failed, rest_open}

@@ -1,29 +1,26 @@
 -- What holds of filters.
-use Rattle.std.proofs.Common.{◌≡◌, ◌⊎◌, ℕ, zero, suc, ◌+◌, ◌-◌, ◌*◌, ◌/◌, ◌%◌, ◌<◌, ◌≤◌, Bool, true, false, List, [], ◌∷◌, length, drop, get_or, refl, sym, ap, subst, ◌∙◌, arith, ⊎_elim, add-one}
-use Rattle.std.specs.Prelude.{◌==◌, nat_lt, cond, All, if◌then◌else◌}
+use Rattle.std.proofs.Common.{◌≡◌, ℕ, zero, suc, ◌+◌, ◌*◌, ◌/◌, ◌%◌, ◌<◌, ◌≤◌, true, false, List, [], ◌∷◌, length, drop, refl, sym, ap, ◌∙◌, arith}
+use Rattle.std.specs.Prelude.{◌==◌, nat_lt, All}
 use Rattle.std.specs.Char.{digit_value}
-use Rattle.std.proofs.lemmas.Bool.{cases_Bool, cond-true, cond-false, lt-ltb}
-use Rattle.filter_tower.specs.declared.tower.FilterKind.{FilterKind}
+use Rattle.std.proofs.lemmas.Bool.{cond-true, cond-false, lt-ltb}
 use Rattle.filter_tower.specs.declared.tower.FilterKind.TheVariants.{Hex}
 use Rattle.filter_tower.specs.declared.tower.FilterLayer.{FilterLayer}
 use Rattle.filter_tower.specs.declared.standing.FilterState.TheVariants.{Open}
-use Rattle.filter_tower.specs.declared.standing.Standing.{Standing}
 use Rattle.filter_tower.specs.Layers.{IsTower, below_at, kind_at, empty_standing}
 use Rattle.data_filters.specs.declared.given.Given.{Given}
 use Rattle.data_filters.specs.declared.given.Given.TheVariants.{Byte, End, Bad}
-use Rattle.data_filters.specs.declared.code.Code.{Code}
 use Rattle.data_filters.specs.declared.code.Code.TheVariants.{Gives, Wrong}
 use Rattle.data_filters.specs.declared.reading.Reading.{Reading}
-use Rattle.data_filters.specs.Rests.{Rest, byte, ended, broken, rest_of, onto, behind, Yields}
-use Rattle.data_filters.specs.Codes.{is_white, past_white, second_digit, first_digit, code}
+use Rattle.data_filters.specs.Rests.{Rest, byte, ended, rest_of, onto, Yields}
+use Rattle.data_filters.specs.Codes.{is_white, past_white, second_digit, code}
 use Rattle.data_filters.specs.Decoded.{decoded, filtered, more_given, through}
-use Rattle.data_filters.specs.Layers.{Source, the_text, over, Call, source_of, source_below, pending, standing_at, still, rest, taking, give}
+use Rattle.data_filters.specs.Layers.{Source, Call, source_of, source_below, standing_at, rest, give}
 use Rattle.data_filters.specs.Law.{answer, given_at, GivesItsRest, GivesFilteredText, digit_of, spelled, ComesBack}
 use Rattle.data_filters.proofs.CodeLemmas.{behind_one}
 use Rattle.data_filters.proofs.DecodedLemmas.{decoded_through, later}
 use Rattle.data_filters.proofs.FoundLemmas.{first_is, end_is_no_digit}
-use Rattle.data_filters.proofs.SourceLemmas.{IsBelow, source_is_below, source_up, rest_over, text_rest}
-use Rattle.data_filters.proofs.GiveLemmas.{Goes, GoesOn, give_goes}
+use Rattle.data_filters.proofs.SourceLemmas.{source_is_below, source_up, rest_over, text_rest}
+use Rattle.data_filters.proofs.GiveLemmas.{GoesOn, give_goes}
 
 -- the first answer, and the others
 at_first : (old new : Rest) (g : Given) → Yields old g new → g ≡ given_at 0 old

@@ -1,21 +1,19 @@
 -- Runs and parts that are read ahead.
-use Rattle.std.proofs.Common.{◌≡◌, ◌⊎◌, ℕ, zero, suc, ◌+◌, ◌-◌, ◌<◌, ◌≤◌, Bool, true, false, List, [], ◌∷◌, ◌++◌, length, take, drop, refl, sym, ap, subst, ◌∙◌, arith, lit≤, ⊎_elim, Option, Some, None, length-append, add-one}
-use Rattle.std.specs.Prelude.{◌==◌, ◌&&◌, not, nat_lt, nat_eq, cond, replicate, if◌then◌else◌}
+use Rattle.std.proofs.Common.{◌≡◌, ℕ, zero, suc, ◌+◌, ◌-◌, ◌<◌, ◌≤◌, Bool, true, false, List, [], ◌∷◌, ◌++◌, length, refl, sym, ap, subst, ◌∙◌, arith, ⊎_elim, Option, Some, None, length-append}
+use Rattle.std.specs.Prelude.{◌==◌, ◌&&◌, not, nat_lt, nat_eq, replicate, if◌then◌else◌}
 use Rattle.std.specs.Prelude.{MatchOption}
 use Rattle.std.specs.List.{starts_with}
-use Rattle.std.proofs.lemmas.Bool.{cases_Bool, cond-true, cond-false, eqb-true, ltb-true, lt-ltb}
-use Rattle.filter_tower.specs.declared.tower.FilterKind.{FilterKind}
-use Rattle.filter_tower.specs.declared.tower.FilterKind.TheVariants.{Hex, Base85, RunLength, SubFile}
+use Rattle.std.proofs.lemmas.Bool.{cases_Bool, cond-true, cond-false, ltb-true, lt-ltb}
+use Rattle.filter_tower.specs.declared.tower.FilterKind.TheVariants.{RunLength, SubFile}
 use Rattle.filter_tower.specs.Layers.{needs_text}
 use Rattle.data_filters.specs.declared.given.Given.{Given}
 use Rattle.data_filters.specs.declared.given.Given.TheVariants.{Byte, End, Bad}
-use Rattle.data_filters.specs.declared.code.Code.{Code}
 use Rattle.data_filters.specs.declared.code.Code.TheVariants.{Gives, Ends, EndsWithSource, Wrong}
 use Rattle.data_filters.specs.declared.code.Found.{Found}
-use Rattle.data_filters.specs.Rests.{Rest, byte, ended, broken, behind, onto, rest_of, Yields}
-use Rattle.data_filters.specs.Codes.{passes, front, in_front, literal_of, literal, repeated, run, one, begins_with, part, code}
+use Rattle.data_filters.specs.Rests.{Rest, byte, ended, behind, rest_of, Yields}
+use Rattle.data_filters.specs.Codes.{passes, front, in_front, literal_of, literal, repeated, run, one, begins_with, part}
 use Rattle.data_filters.specs.Decoded.{decoded}
-use Rattle.data_filters.specs.Found.{Leaves, Finds, whole, cut, behind_length, by_itself, FindsLiteral, literal_found, part_end}
+use Rattle.data_filters.specs.Found.{Leaves, Finds, whole, behind_length, by_itself, FindsLiteral, literal_found, part_end}
 use Rattle.data_filters.proofs.CodeLemmas.{differs}
 use Rattle.data_filters.proofs.FoundLemmas.{behind_more, decoded_ended}
 

@@ -1,8 +1,8 @@
 -- Sources and what they would still give.
-use Rattle.std.proofs.Common.{◌≡◌, ◌⊎◌, ◌≢◌, ℕ, zero, suc, ◌+◌, ◌-◌, ◌<◌, ◌≤◌, Bool, true, false, List, [], ◌∷◌, ◌++◌, length, drop, get_or, refl, sym, ap, subst, ◌∙◌, arith, lit≤, ⊎_elim, Option, Some, None, add-one, drop_of_length-le}
-use Rattle.std.specs.Prelude.{nat_lt, cond, slice_index, slice_set, slice_index_or, if◌then◌else◌}
+use Rattle.std.proofs.Common.{◌≡◌, ◌≢◌, ℕ, zero, suc, ◌+◌, ◌<◌, ◌≤◌, Bool, true, false, List, [], ◌∷◌, length, drop, get_or, refl, sym, ap, subst, ◌∙◌, arith, ⊎_elim, Some, None, add-one, drop_of_length-le}
+use Rattle.std.specs.Prelude.{nat_lt, slice_index, if◌then◌else◌}
 use Rattle.std.proofs.Math.Seq.{drop-cons}
-use Rattle.std.proofs.lemmas.Bool.{cases_Bool, cond-true, cond-false, ltb-true, ltb-false}
+use Rattle.std.proofs.lemmas.Bool.{cases_Bool, ltb-true, ltb-false}
 use Rattle.std.specs.Prelude.{slice_get}
 use Rattle.std.proofs.lemmas.Option.{get_or_from_slice_get, slice_get-get_or}
 use Rattle.std.proofs.lemmas.List.{get_or-set_same, get_or-set_other}
@@ -14,13 +14,13 @@ use Rattle.filter_tower.specs.declared.standing.FilterState.TheVariants.{Open, E
 use Rattle.filter_tower.specs.declared.standing.Standing.{Standing}
 use Rattle.filter_tower.specs.Layers.{IsTower, layer_at, below_at, kind_at}
 use Rattle.data_filters.specs.declared.given.Given.{Given}
-use Rattle.data_filters.specs.declared.given.Given.TheVariants.{Byte, End, Bad}
+use Rattle.data_filters.specs.declared.given.Given.TheVariants.{Byte}
 use Rattle.data_filters.specs.declared.code.Code.{Code}
 use Rattle.data_filters.specs.declared.code.Code.TheVariants.{Gives, Ends, EndsWithSource, Wrong}
 use Rattle.data_filters.specs.declared.code.Found.{Found}
 use Rattle.data_filters.specs.declared.reading.Reading.{Reading}
-use Rattle.data_filters.specs.Rests.{Rest, byte, ended, broken, rest_of, onto, Yields, behind}
-use Rattle.data_filters.specs.Codes.{passes, code}
+use Rattle.data_filters.specs.Rests.{Rest, byte, ended, broken, rest_of, onto, Yields}
+use Rattle.data_filters.specs.Codes.{code}
 use Rattle.data_filters.specs.Decoded.{more_given, through, decoded}
 use Rattle.data_filters.specs.Layers.{Source, the_text, over, source_within, source_of, pending, standing_at, put, at_end, at_fault, behind_code, still, rest, text_gives}
 use Rattle.data_filters.specs.Found.{GivesPending, Finds, Leaves, begun}

@@ -1,10 +1,9 @@
 -- Taking bytes and codes from a source.
-use Rattle.std.proofs.Common.{◌≡◌, ◌⊎◌, ℕ, zero, suc, ◌+◌, ◌-◌, ◌<◌, ◌≤◌, Bool, true, false, List, [], ◌∷◌, length, drop, get_or, refl, sym, ap, subst, ◌∙◌, arith, ⊎_elim, Option, Some, None}
-use Rattle.std.specs.Prelude.{cond, slice_get, slice_set, if◌then◌else◌}
+use Rattle.std.proofs.Common.{◌≡◌, ℕ, zero, suc, ◌+◌, ◌-◌, ◌<◌, ◌≤◌, Bool, true, false, List, [], ◌∷◌, length, get_or, refl, sym, ap, subst, ◌∙◌, arith, ⊎_elim, Option, Some, None}
+use Rattle.std.specs.Prelude.{slice_get, slice_set}
 use Rattle.std.proofs.lemmas.Bool.{cases_Bool, cond-true, cond-false}
 use Rattle.filter_tower.specs.declared.tower.FilterKind.{FilterKind}
 use Rattle.filter_tower.specs.declared.tower.FilterLayer.{FilterLayer}
-use Rattle.filter_tower.specs.declared.standing.FilterState.{FilterState}
 use Rattle.filter_tower.specs.declared.standing.FilterState.TheVariants.{Open, Ended, Failed}
 use Rattle.filter_tower.specs.declared.standing.Standing.{Standing}
 use Rattle.filter_tower.specs.Layers.{IsTower, below_at, kind_at}
@@ -13,13 +12,13 @@ use Rattle.data_filters.specs.declared.given.Given.TheVariants.{Byte, End, Bad}
 use Rattle.data_filters.specs.declared.code.Code.{Code}
 use Rattle.data_filters.specs.declared.code.Code.TheVariants.{Gives, Ends, EndsWithSource, Wrong}
 use Rattle.data_filters.specs.declared.reading.Reading.{Reading}
-use Rattle.data_filters.specs.Rests.{Rest, byte, ended, broken, has_byte, reach, size, Yields}
+use Rattle.data_filters.specs.Rests.{Rest, byte, ended, broken, has_byte, size, Yields}
 use Rattle.data_filters.specs.Codes.{passes, code, left_behind, takes_more, length_taken}
-use Rattle.data_filters.specs.Layers.{Source, the_text, over, Call, source_of, source_below, pending, standing_at, put, at_end, at_fault, rest, taking, taken_from, end_taken, is_spent, settled, code_begun, code_taken, byte_passed, gives_by, layer_gives, text_gives, give}
+use Rattle.data_filters.specs.Layers.{Source, Call, source_of, source_below, standing_at, put, at_end, at_fault, rest, taking, end_taken, is_spent, settled, code_begun, code_taken, gives_by, layer_gives, text_gives, give}
 use Rattle.data_filters.specs.Found.{GivesPending}
 use Rattle.data_filters.proofs.Readings.{standing_is}
-use Rattle.data_filters.proofs.SourceLemmas.{IsBelow, source_zero, source_up, source_is_below, below_is, rest_agree, layer_is}
-use Rattle.data_filters.proofs.GiveLemmas.{Goes, GoesOn, give_goes}
+use Rattle.data_filters.proofs.SourceLemmas.{source_zero, source_up, source_is_below, below_is, rest_agree, layer_is}
+use Rattle.data_filters.proofs.GiveLemmas.{Goes, give_goes}
 
 -- a source as it stands in a copy
 pub copied : (text : List ℕ) (layers : List FilterLayer) (source : ℕ) (now ahead : Reading) → IsTower layers → source ≤ length layers → ahead.place ≡ now.place

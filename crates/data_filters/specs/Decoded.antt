@@ -1,9 +1,9 @@
 -- The bytes of all codes up to the end.
-use Rattle.std.specs.Prelude.{ℕ, zero, suc, ◌+◌, ◌-◌, ◌^◌, min, List, [], ◌∷◌, length, if◌then◌else◌}
+use Rattle.std.specs.Prelude.{ℕ, zero, suc, ◌+◌, ◌-◌, ◌^◌, min, List, length, if◌then◌else◌}
 use Rattle.filter_tower.specs.declared.tower.FilterKind.{FilterKind}
 use Rattle.data_filters.specs.declared.code.Code.{Code}
 use Rattle.data_filters.specs.declared.code.Code.TheVariants.{Gives, Ends, EndsWithSource, Wrong}
-use Rattle.data_filters.specs.Rests.{Rest, byte, ended, broken, onto, rest_of, bytes_of}
+use Rattle.data_filters.specs.Rests.{Rest, byte, ended, broken, onto, rest_of}
 use Rattle.data_filters.specs.Codes.{passes, code}
 
 -- a count of bytes given stands still at its type's end

@@ -1,5 +1,5 @@
 -- What is found where a code is read ahead.
-use Rattle.std.specs.Prelude.{◌≡◌, ℕ, ◌+◌, ◌-◌, ◌*◌, ◌^◌, ◌<◌, ◌≤◌, Bool, true, false, not, ◌==◌, nat_eq, ◌&&◌, nat_lt, List, [], ◌∷◌, length, drop, take, replicate, if◌then◌else◌, Option, Some, None}
+use Rattle.std.specs.Prelude.{◌≡◌, ℕ, ◌+◌, ◌*◌, Bool, true, false, not, ◌==◌, nat_eq, ◌&&◌, nat_lt, List, [], ◌∷◌, length, drop, replicate, if◌then◌else◌, Option, Some, None}
 use Rattle.std.specs.Char.{digit_value}
 use Rattle.std.specs.List.{starts_with}
 use Rattle.filter_tower.specs.declared.tower.FilterKind.{FilterKind}

@@ -1,6 +1,5 @@
 -- What holds of filters.
 use Rattle.std.specs.Prelude.{◌≡◌, ℕ, zero, suc, ◌+◌, ◌/◌, ◌%◌, ◌<◌, ◌≤◌, nat_lt, List, [], ◌∷◌, length, drop, if◌then◌else◌, All}
-use Rattle.filter_tower.specs.declared.tower.FilterKind.{FilterKind}
 use Rattle.filter_tower.specs.declared.tower.FilterKind.TheVariants.{Hex}
 use Rattle.filter_tower.specs.declared.tower.FilterLayer.{FilterLayer}
 use Rattle.filter_tower.specs.declared.standing.FilterState.TheVariants.{Open}

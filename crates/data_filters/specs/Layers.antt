@@ -1,5 +1,5 @@
 -- What a layer gives, and where it and its sources stand then.
-use Rattle.std.specs.Prelude.{ℕ, zero, suc, ◌+◌, ◌<◌, ◌≤◌, Bool, true, false, ◌&&◌, ◌==◌, nat_lt, nat_le, List, [], ◌∷◌, length, drop, slice_index, slice_index_or, slice_set, if◌then◌else◌}
+use Rattle.std.specs.Prelude.{ℕ, zero, suc, ◌+◌, Bool, true, false, ◌&&◌, nat_lt, nat_le, List, [], ◌∷◌, length, drop, slice_index, slice_index_or, slice_set, if◌then◌else◌}
 use Rattle.filter_tower.specs.declared.tower.FilterKind.{FilterKind}
 use Rattle.filter_tower.specs.declared.tower.FilterLayer.{FilterLayer}
 use Rattle.filter_tower.specs.declared.standing.FilterState.{FilterState}
@@ -11,7 +11,7 @@ use Rattle.data_filters.specs.declared.given.Given.TheVariants.{Byte, End, Bad}
 use Rattle.data_filters.specs.declared.code.Code.{Code}
 use Rattle.data_filters.specs.declared.code.Code.TheVariants.{Gives, Ends, EndsWithSource, Wrong}
 use Rattle.data_filters.specs.declared.reading.Reading.{Reading}
-use Rattle.data_filters.specs.Rests.{Rest, byte, ended, broken, rest_of, onto}
+use Rattle.data_filters.specs.Rests.{Rest, ended, broken, rest_of, onto}
 use Rattle.data_filters.specs.Codes.{code, taken_by, length_taken}
 use Rattle.data_filters.specs.Decoded.{more_given, decoded}
 

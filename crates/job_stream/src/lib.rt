@@ -6,6 +6,6 @@ mod reader;
 #[cfg(test)]
 mod tests;
 
-pub use law::jobs_law;
 pub use copy_lists::{NoMemory, Text};
+pub use law::jobs_law;
 pub use reader::{CONTROL_D, Fed, Front, JOB_LIMIT, JobReader};

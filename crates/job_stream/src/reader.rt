@@ -4,8 +4,8 @@ ghost use Rattle.std.specs.List.{list_all, list_any, position_or_len, before_fir
 ghost use Rattle.memchr.specs.Find.{is_byte};
 ghost use Rattle.job_stream.specs.Jobs.{is_white, is_blank, is_control_d};
 
-use memchr::memchr;
 use copy_lists::{NoMemory, Text};
+use memchr::memchr;
 use std::alloc::Global;
 use std::mem;
 

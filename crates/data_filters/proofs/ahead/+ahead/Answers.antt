@@ -1,4 +1,4 @@
-use Rattle.std.proofs.Common.{◌≡◌, ◌∷◌, [], true, false, length, drop, refl, sym, ap, subst, ◌∙◌, arith, ℕ, suc, ◌+◌, ◌-◌, ◌*◌, ◌<◌, ◌≤◌}
+use Rattle.std.proofs.Common.{◌≡◌, length, drop, refl, sym, ap, subst, ◌∙◌, arith, suc, ◌-◌, ◌<◌, ◌≤◌}
 use Rattle.data_filters.specs.declared.given.Given.TheVariants.{Byte, End, Bad}
 use Rattle.data_filters.specs.Rests.{Rest, byte}
 use Rattle.data_filters.specs.Codes.{past_white}

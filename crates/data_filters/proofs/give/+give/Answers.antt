@@ -1,5 +1,5 @@
-use Rattle.std.proofs.Common.{◌≡◌, ◌∷◌, [], true, false, length, drop, refl, sym, ap, subst, ◌∙◌, arith, ℕ, List, suc, ◌+◌, ◌-◌, ◌*◌, ◌<◌, ◌≤◌}
-use Rattle.data_filters.specs.declared.given.Given.TheVariants.{Byte, End, Bad}
+use Rattle.std.proofs.Common.{◌≡◌, length, sym, ap, ◌∙◌, arith, List, suc, ◌-◌, ◌≤◌}
+use Rattle.data_filters.specs.declared.given.Given.TheVariants.{End, Bad}
 use Rattle.std.specs.Prelude.{slice_set}
 use Rattle.filter_tower.specs.declared.standing.Standing.{Standing}
 use Rattle.filter_tower.specs.Layers.{kind_at}
@@ -7,7 +7,7 @@ use Rattle.data_filters.specs.declared.code.Code.TheVariants.{Gives, Ends, EndsW
 use Rattle.data_filters.specs.declared.reading.Reading.{Reading}
 use Rattle.data_filters.specs.Rests.{has_byte}
 use Rattle.data_filters.specs.Codes.{left_behind}
-use Rattle.data_filters.specs.Layers.{code_taken, source_below, source_of, rest, give}
+use Rattle.data_filters.specs.Layers.{code_taken, source_below, rest, give}
 use Rattle.data_filters.proofs.TakeLemmas.{gives_text, gives_pending, gives_end, gives_fault, gives_code, settled_not_at, settled_at, taken_none, taken_some, taken_end, taken_all, taken_wrong, one_taken, no_end, no_fault, below_source, kind_is}
 use Rattle.data_filters.proofs.give.+give.Goals as goal
 
