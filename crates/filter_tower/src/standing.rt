@@ -1,5 +1,5 @@
 //! Where the layers of a tower stand.
-ghost use Rattle.std.specs.Prelude.{◌≡◌, ◌<◌, ◌==◌, [], ◌∷◌, ◌++◌, ◌+◌, ◌-◌, length, take, slice_get, slice_set, Some, OnOk, OnErr};
+ghost use Rattle.std.specs.Prelude.{◌≡◌, ◌<◌, [], ◌∷◌, ◌++◌, ◌+◌, ◌-◌, length, take, slice_get, slice_set, Some, OnOk, OnErr};
 
 use crate::{CodeBytes, NoMemory};
 use std::alloc::Global;
@@ -77,18 +77,6 @@ impl Standings {
         Standings {
             items: Vec::new(alloc),
         }
-    }
-
-    pub fn len(&self) -> usize
-        ensures { result ≡ length self.now }
-    {
-        self.items.len()
-    }
-
-    pub fn is_empty(&self) -> bool
-        ensures { result ≡ (length self.now == 0) }
-    {
-        self.items.is_empty()
     }
 
     pub fn at(&self, place: usize) -> &Standing
