@@ -13,7 +13,7 @@ mod tests;
 
 pub use act::Act;
 pub use copy_lists::{Boxed, Duplicate, NoMemory, Sequence, Stack, Text};
-pub use frame::{FRAME_LIMIT, Frame, Frames, ImageRun, Pair, PathWalk, Samples, room_for_frame};
+pub use frame::{FRAME_LIMIT, Frame, Frames, ImageRun, Pair, PathWalk, Samples, frames_room};
 pub use graphics::{Colour, GStack, GState, Layer};
 pub use ps_objects::{
     Access, Cell, DICT_STACK_LIMIT, DictStack, ErrorName, FileName, Interval, Key, KeyForm, Keys,

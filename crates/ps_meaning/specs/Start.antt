@@ -1,5 +1,5 @@
 -- The registers and the memory with which a job starts.
-use Rattle.std.specs.Prelude.{ℕ, suc, ◌*◌, pos, false, true, List, [], ◌∷◌, ◌++◌, take, codes}
+use Rattle.std.specs.Prelude.{ℕ, suc, ◌*◌, pos, neg_ℤ, Ok, Err, false, true, List, [], ◌∷◌, ◌++◌, take, codes}
 use Rattle.std.specs.FinMap.{from_entries}
 use Rattle.ps_shapes.specs.declared.numbers.Matrix.{Matrix}
 use Rattle.ps_shapes.specs.declared.numbers.Real.{Real}
@@ -14,13 +14,16 @@ use Rattle.ps_objects.specs.declared.object.Object.{Object}
 use Rattle.ps_objects.specs.declared.object.Kind.{Kind}
 use Rattle.ps_objects.specs.declared.object.Kind.TheVariants as kind
 use Rattle.ps_names.specs.Operators.{operator_names, error_names}
+use Rattle.ps_objects.specs.declared.settings.Settings.{Settings}
+use Rattle.ps_fixed.specs.Arithmetic.{quotient_of}
 use Rattle.ps_kinds.specs.declared.graphics.Colour.TheVariants.{Gray}
 use Rattle.ps_kinds.specs.declared.graphics.GState.{GState}
 use Rattle.ps_kinds.specs.declared.ranges.LineCap.TheVariants.{Butt}
 use Rattle.ps_kinds.specs.declared.ranges.LineJoin.TheVariants.{Miter}
 use Rattle.ps_kinds.specs.declared.regs.Regs.{Regs}
 use Rattle.ps_memory.specs.Memory.{Content, dictionary, items, characters, Memory, here, blank, null_object}
-use Rattle.ps_meaning.specs.Registers.{system_dict, global_dict, user_dict, SoundState}
+use Rattle.ps_meaning.specs.Registers.{system_dict, global_dict, user_dict, SoundState, world_of}
+use Rattle.ps_meaning.specs.Kin.{HasNoneFrom}
 
 -- ---- cells
 
@@ -101,20 +104,40 @@ start_globals =
 abbrev pub start_strings : List (Cell × List ℕ)
 start_strings = (version, codes "page-rip") ∷ (product, codes "page-rip") ∷ []
 
--- memory at the start of a job on paper of this size
-abbrev pub start_memory : (width height : ℕ) → Memory
-start_memory width height =
-    record { locals = from_entries start_locals; globals = from_entries start_globals; strings = from_entries start_strings; rand = 1; page = here (blank width height); kept = [] }
+-- memory at the start of a job: blank paper of the settings' size
+abbrev pub start_memory : Settings → Memory
+start_memory s =
+    record { locals = from_entries start_locals; globals = from_entries start_globals; strings = from_entries start_strings; rand = 1; page = here (blank s.width s.height); kept = [] }
 
 -- ---- registers
 
+-- a whole number as a real
 abbrev pub whole_real : ℕ → Real
 whole_real n = record { count = pos (n * 16777216) }
 
--- the graphics state at the start of a job, with the default matrix of its resolution
-abbrev pub start_state : Matrix → (width height : ℕ) → GState
-start_state matrix width height = record {
-  ctm = matrix;
+-- the pixels of a point, 1/72 of an inch: the quotient of reals, which is never undefined
+abbrev pub scale_of : (dpi : ℕ) → Real
+scale_of dpi = elim (quotient_of (whole_real dpi) (whole_real 72)) [ Ok s ↦ s | Err e ↦ whole_real 0 ]
+
+-- From points upward from the lower left corner to pixels downward from the upper left one (section 4.3 of the language manual)
+abbrev pub default_matrix : (dpi height : ℕ) → Matrix
+default_matrix dpi height = record {
+  a = scale_of dpi;
+  b = whole_real 0;
+  c = whole_real 0;
+  d = record { count = neg_ℤ (scale_of dpi).count };
+  tx = whole_real 0;
+  ty = whole_real height;
+}
+
+-- the empty array that `currentdash` gives at first
+abbrev pub empty_dash_object : Object
+empty_dash_object = literal (kind.Array (whole_of empty_dash 0) false)
+
+-- the graphics state at the start of a job
+abbrev pub start_state : Settings → GState
+start_state s = record {
+  ctm = default_matrix s.dpi s.height;
   path = [];
   clips = [];
   colour = Gray (whole_real 0);
@@ -122,7 +145,7 @@ start_state matrix width height = record {
   cap = Butt;
   join = Miter;
   miter = whole_real 10;
-  dash = literal (kind.Array (whole_of empty_dash 0) false);
+  dash = empty_dash_object;
   offset = whole_real 0;
   lengths = [];
   flat = whole_real 1;
@@ -134,21 +157,22 @@ start_state matrix width height = record {
   halftone = null_object;
   thresholds = record { width = 0; height = 0; bytes = [] };
   font = null_object;
-  wide = width;
-  high = height;
+  wide = s.width;
+  high = s.height;
 }
 
-abbrev pub start_registers : Matrix → (width height : ℕ) → Regs
-start_registers matrix width height = record {
+-- the registers at the start of a job: no operands, and the three dictionaries that no program takes from their stack
+abbrev pub start_registers : Settings → Regs
+start_registers s = record {
   operands = [];
   dicts = user_dict ∷ global_dict ∷ system_dict ∷ [];
-  state = start_state matrix width height;
+  state = start_state s;
   states = [];
   saves = [];
   global = false;
   packing = false;
 }
 
--- a job starts in a sound state
+-- a job starts in a sound state, in which no cell or save has a name of a section to come
 abbrev pub StartLaw : Type 0
-StartLaw = (matrix : Matrix) (width height : ℕ) → SoundState (start_registers matrix width height) (start_memory width height)
+StartLaw = (s : Settings) → SoundState (start_registers s) (start_memory s) × HasNoneFrom 1 (world_of 1 (start_memory s))

@@ -12,7 +12,7 @@ use Rattle.ps_memory.specs.Order.{cell_cmp}
 use Rattle.ps_memory.specs.Memory.{is_global, newer, same_save, Content, dictionary, items, characters, Cells, Memory, whole, Spot, held, byte, rand, paper, spot_of, in_content, shape_in, is_slot, is_byte, is_place, Action, store, fresh, save, restore, tell, put_content, put_byte, put_cell, do_store, content_of, new_bytes, do_fresh, copy_named, older_than, put_back, perform}
 use Rattle.ps_memory.specs.Ownership.{same_cell, outlives}
 use Rattle.ps_memory.specs.Frame.{IsUnused}
-use Rattle.ps_memory.specs.Writes.{apply, Applicable, undo}
+use Rattle.ps_memory.specs.Writes.{apply, Applicable, undo, is_open, RestoringLaw}
 use Rattle.ps_memory.proofs.Order.{cells_total}
 use Rattle.ps_memory.proofs.Places.{kept_at, put_other, put_at, mapped, string_fresh_other, restored}
 use Rattle.ps_memory.proofs.Frame.{save_is, kept_store, kept_fresh}
@@ -104,10 +104,6 @@ stands_fresh c sh M d h = go (is_global c) h
 
 -- ---- a restore after many writes
 
-abbrev pub is_open : SaveName → List Action → Bool
-is_open s [] = false
-is_open s (save r ∷ ws) = cond (same_save s r) true (is_open s ws)
-is_open s (_ ∷ ws) = is_open s ws
 
 -- the copy under a name that the writes opened: each of its cells still stands
 record Opened (s : SaveName) (M : Memory) : Type 0 where
@@ -250,3 +246,6 @@ applicable_undo s (store l v ∷ ws) N f h = go (outlives s (spot_of l)) refl (a
     go false e ih = ih
 applicable_undo s (restore r ∷ ws) N f h = absurd (true≢false (sym f.0))
 applicable_undo s (tell x ∷ ws) N f h = absurd (true≢false (sym f.0))
+
+pub restoring_law : RestoringLaw
+restoring_law s ws M a o = (sym (undone s ws M a o), applicable_undo s ws M a o)

@@ -6,9 +6,9 @@ use Rattle.ps_memory.specs.Memory.{is_global, same_save, Spot, spot_of, Memory, 
 use Rattle.ps_memory.specs.Tree.{Tree, ends, looks, acts, asks, Step, looked_at, did, trail, play}
 use Rattle.ps_memory.specs.Ownership.{Owned, nothing_owned, saves_before, has_save, own, outer_from, outlives}
 use Rattle.ps_memory.specs.Frame.{Allowed, Safe}
-use Rattle.ps_memory.specs.Writes.{apply, Applicable, undo, note, writes_from, CertificateLaw}
+use Rattle.ps_memory.specs.Writes.{apply, Applicable, undo, note, writes_from, CertificateLaw, is_open}
 use Rattle.ps_memory.proofs.Frame.{frame_law}
-use Rattle.ps_memory.proofs.Undo.{is_open, undone, applicable_undo}
+use Rattle.ps_memory.proofs.Undo.{undone, applicable_undo}
 use Rattle.ps_memory.proofs.Replace.{saves_in, noted_store}
 
 -- each action of a trail is allowed where it is done

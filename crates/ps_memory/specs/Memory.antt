@@ -20,17 +20,7 @@ use Rattle.ps_objects.specs.declared.place.Value.TheVariants as value
 use Rattle.ps_objects.specs.declared.place.Shape.{Shape}
 use Rattle.ps_objects.specs.declared.place.Shape.TheVariants as shape
 use Rattle.ps_memory.specs.Order.{cell_cmp, key_cmp}
-
-abbrev pub in_global : Space → Bool
-in_global Local = false
-in_global Global = true
-
-abbrev pub is_global : Cell → Bool
-is_global c = in_global c.space
-
--- a local cell that was made after the save
-abbrev pub newer : Cell → SaveName → Bool
-newer c s = not (is_global c) && is_gt (ordering_then (nat_cmp c.section s.section) (nat_cmp c.count s.count))
+pub use Rattle.ps_objects.specs.Cell.{in_global, is_global, newer}
 
 abbrev pub same_save : SaveName → SaveName → Bool
 same_save a b = nat_eq a.section b.section && nat_eq a.count b.count

@@ -84,6 +84,17 @@ abbrev pub CertificateLaw : Type 0 → Type 0
 CertificateLaw A = (t : Tree A) (B M : Memory) → Safe t B → Safe t M → Kin B M → outer (trail t B) ≡ None
     → AllByRecursion (λ l. value_at B l ≡ value_at M l) (looked (trail t B)) → Holds t B M
 
+-- the writes open a save of this name
+abbrev pub is_open : SaveName → List Action → Bool
+is_open s [] = false
+is_open s (save r ∷ ws) = cond (same_save s r) true (is_open s ws)
+is_open s (_ ∷ ws) = is_open s ws
+
+-- noting a restore of a save that the writes open does what the restore does
+abbrev pub RestoringLaw : Type 0
+RestoringLaw = (s : SaveName) (ws : List Action) (M : Memory) → Applicable ws M → is_open s ws ≡ true
+    → (apply (note (restore s) ws) M ≡ perform (restore s) (apply ws M)) × Applicable (note (restore s) ws) M
+
 -- noting a store does what the store does, wherever it put it
 abbrev pub ReplacingLaw : Type 0
 ReplacingLaw = (l : Loc) (v : Value) (ws : List Action) (M : Memory) → Applicable ws M → Allowed (store l v) (apply ws M)

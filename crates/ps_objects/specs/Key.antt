@@ -1,5 +1,5 @@
 -- Objects as keys.
-use Rattle.std.specs.Prelude.{ℕ, pos, negsuc, ◌&&◌, ◌==◌, List, true, false, if◌then◌else◌, int_le, int_div, int_rem, Option, Some, None, Result, Ok, Err}
+use Rattle.std.specs.Prelude.{ℕ, pos, negsuc, ◌&&◌, ◌==◌, List, if◌then◌else◌, int_le, int_div, int_rem, Option, Some, None, Result, Ok, Err}
 use Rattle.std.specs.Ordering.{int_eq}
 use Rattle.ps_shapes.specs.declared.numbers.Real.{Real}
 use Rattle.ps_objects.specs.declared.cell.Cell.{Cell}
@@ -59,18 +59,3 @@ abbrev pub cell_of_key : Key → Option Cell
 cell_of_key (key.Dict cell) = Some cell
 cell_of_key (key.Array interval _) = Some interval.cell
 cell_of_key _ = None
-
--- the order of the kinds of keys
-abbrev pub kind_rank : Key → ℕ
-kind_rank (key.Name _) = 0
-kind_rank (key.Integer _) = 1
-kind_rank (key.Real _) = 2
-kind_rank (key.Boolean false) = 3
-kind_rank (key.Boolean true) = 4
-kind_rank (key.Operator _) = 5
-kind_rank (key.Dict _) = 6
-kind_rank (key.Array _ _) = 7
-kind_rank (key.File _ _) = 8
-kind_rank (key.Save _) = 9
-kind_rank (key.FontId _) = 10
-kind_rank key.Mark = 11

@@ -1,8 +1,8 @@
 //! Keys of dictionaries.
-ghost use Rattle.std.specs.Prelude.{◌≡◌, IfOk, nat_lt, true, false};
+ghost use Rattle.std.specs.Prelude.{◌≡◌, IfOk, false};
 ghost use Rattle.ps_objects.specs.Operands.{Reads};
-ghost use Rattle.ps_objects.specs.Key.{key_form_of, real_key, key_kind, cell_of_key, kind_rank};
-ghost use Rattle.std.specs.declared.cmp.Ordering.TheVariants.{Less};
+ghost use Rattle.ps_objects.specs.Key.{key_form_of, real_key, key_kind, cell_of_key};
+ghost use Rattle.ps_objects.specs.Order.{key_order};
 
 use crate::{
     Access, Cell, Duplicate, ErrorName, Interval, Kind, Name, NoMemory, Object, Op, Real, Refusal,
@@ -63,9 +63,10 @@ impl Key {
         })
     }
 
-    /// Compares two keys. Keys of different kinds are in the order of `kind_rank`.
+    /// Compares two keys: names by their bytes, numbers by their values, keys of different kinds by their kinds.
+    #[tactic(auto, using(crate::proofs::Orders::keys_in_order))]
     pub fn compare(&self, other: &Key) -> Ordering
-        ensures { nat_lt (kind_rank self.now) (kind_rank other.now) ≡ true → result ≡ Less }
+        ensures { result ≡ key_order self.now other.now }
     {
         self.cmp(other)
     }

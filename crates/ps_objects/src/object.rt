@@ -40,34 +40,31 @@ pub struct Object {
 // Stacks and memory hold many objects.
 const _: () = prove!(size_of::<Object>() <= 48);
 
-impl Kind {
-    pub fn copy(&self) -> Result<Kind, NoMemory>
-        ensures { IfOk result (λ kind. kind ≡ self.now) }
-    {
-        Ok(match self {
-            Kind::Integer(n) => Kind::Integer(*n),
-            Kind::Real(r) => Kind::Real(*r),
-            Kind::Boolean(b) => Kind::Boolean(*b),
-            Kind::Null => Kind::Null,
-            Kind::Mark => Kind::Mark,
-            Kind::Name(name) => Kind::Name(name.copy()?),
-            Kind::Operator(op) => Kind::Operator(*op),
-            Kind::Str(interval) => Kind::Str(*interval),
-            Kind::Array { interval, packed } => Kind::Array {
-                interval: *interval,
-                packed: *packed,
-            },
-            Kind::Dict(cell) => Kind::Dict(*cell),
-            Kind::File { section } => Kind::File { section: *section },
-            Kind::Filter { section, layer } => Kind::Filter {
-                section: *section,
-                layer: *layer,
-            },
-            Kind::Save(save) => Kind::Save(*save),
-            Kind::FontId(cell) => Kind::FontId(*cell),
+/// An equal object, or what `$wrap` makes of it. Each arm makes the whole: an object that is put together after the match
+/// costs twice as much.
+macro_rules! copied {
+    ($object:expr, $($wrap:tt)*) => {{
+        let object = $object;
+        Ok(match &object.kind {
+            Kind::Integer(n) => $($wrap)*(Object { kind: Kind::Integer(*n), exec: object.exec, access: object.access }),
+            Kind::Real(r) => $($wrap)*(Object { kind: Kind::Real(*r), exec: object.exec, access: object.access }),
+            Kind::Boolean(b) => $($wrap)*(Object { kind: Kind::Boolean(*b), exec: object.exec, access: object.access }),
+            Kind::Null => $($wrap)*(Object { kind: Kind::Null, exec: object.exec, access: object.access }),
+            Kind::Mark => $($wrap)*(Object { kind: Kind::Mark, exec: object.exec, access: object.access }),
+            Kind::Name(name) => $($wrap)*(Object { kind: Kind::Name(name.copy()?), exec: object.exec, access: object.access }),
+            Kind::Operator(op) => $($wrap)*(Object { kind: Kind::Operator(*op), exec: object.exec, access: object.access }),
+            Kind::Str(part) => $($wrap)*(Object { kind: Kind::Str(*part), exec: object.exec, access: object.access }),
+            Kind::Array { interval, packed } => $($wrap)*(Object { kind: Kind::Array { interval: *interval, packed: *packed }, exec: object.exec, access: object.access }),
+            Kind::Dict(cell) => $($wrap)*(Object { kind: Kind::Dict(*cell), exec: object.exec, access: object.access }),
+            Kind::File { section } => $($wrap)*(Object { kind: Kind::File { section: *section }, exec: object.exec, access: object.access }),
+            Kind::Filter { section, layer } => $($wrap)*(Object { kind: Kind::Filter { section: *section, layer: *layer }, exec: object.exec, access: object.access }),
+            Kind::Save(save) => $($wrap)*(Object { kind: Kind::Save(*save), exec: object.exec, access: object.access }),
+            Kind::FontId(cell) => $($wrap)*(Object { kind: Kind::FontId(*cell), exec: object.exec, access: object.access }),
         })
-    }
+    }};
 }
+
+pub(crate) use copied;
 
 impl Kind {
     ghost use Rattle.ps_objects.specs.Object.{cell_named};
@@ -89,11 +86,7 @@ impl Object {
     pub fn copy(&self) -> Result<Object, NoMemory>
         ensures { IfOk result (λ object. object ≡ self.now) }
     {
-        Ok(Object {
-            kind: self.kind.copy()?,
-            exec: self.exec,
-            access: self.access,
-        })
+        copied!(self,)
     }
 }
 

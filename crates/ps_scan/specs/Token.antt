@@ -5,6 +5,7 @@ use Rattle.ps_objects.specs.declared.Real.{Real}
 use Rattle.ps_names.specs.declared.error_name.ErrorName.{ErrorName}
 use Rattle.ps_names.specs.declared.error_name.ErrorName.TheVariants.{LimitCheck, SyntaxError}
 use Rattle.ps_fixed.specs.declared.Undefined.{Undefined}
+use Rattle.ps_names.specs.declared.op.TheConstants.{NAME_LIMIT}
 use Rattle.ps_scan.specs.Characters.{is_delimiter, blanks, closing}
 use Rattle.ps_scan.specs.Numbers.{is_integer, is_decimal, is_radix, integer_value, real_value, radix_value}
 use Rattle.ps_scan.specs.Strings.{string_limit, string_body, is_hex, hex_bytes}
@@ -40,7 +41,7 @@ named kind.Immediate name = token.Now name
 
 -- a name has at most 127 bytes
 abbrev pub name_token : NameKind → List ℕ → Result Token ErrorName
-name_token how row = if nat_le (length row) 127 then Ok (named how row) else Err LimitCheck
+name_token how row = if nat_le (length row) NAME_LIMIT then Ok (named how row) else Err LimitCheck
 
 -- the token of a row of regular characters: a number, else an executable name
 unfoldable pub row_token : List ℕ → Result Token ErrorName

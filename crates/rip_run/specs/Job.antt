@@ -3,7 +3,7 @@ use Rattle.std.specs.Prelude.{◌≡◌, ℕ, Bool, true, false, not, ◌||◌, 
 use Rattle.dsc_split.specs.Sections.{page_count, sections_of, text_of}
 use Rattle.dsc_split.specs.declared.section.Section.{Section}
 use Rattle.ps_names.specs.ErrorName.{bytes_of}
-use Rattle.ps_scan.specs.Simple.{is_simple}
+use Rattle.rip_run.specs.Simple.{is_simple}
 use Rattle.rip_run.specs.Section.{run_of}
 use Rattle.rip_run.specs.Texts.{done_line, line_ended, no_string_value, not_yet_line, report_text, section_line, too_large_line, too_many_line, usage_line}
 use Rattle.rip_run.specs.Words.{command_of}

@@ -2,7 +2,7 @@
 ghost use Rattle.std.specs.Prelude.{◌≡◌, ◌≢◌, ◌≤◌, ◌++◌, length, flat_map, IfOk, IfSome, OnOk, true};
 ghost use Rattle.rip_ports.specs.Ports.{HasRisen};
 ghost use Rattle.dsc_split.specs.Law.{StandsWithin};
-ghost use Rattle.ps_scan.specs.Simple.{is_plain};
+ghost use Rattle.rip_run.specs.Simple.{is_plain};
 ghost use Rattle.rip_run.specs.Job.{command_text, is_overflow, plain_result, prolog_text, report_of, result_of_command, result_of_read, result_of_run, status_of};
 ghost use Rattle.rip_run.specs.Reading.{IsAtEnd};
 ghost use Rattle.rip_run.specs.Section.{run_of};
@@ -12,12 +12,12 @@ ghost use Rattle.rip_run.specs.declared.status.Status.TheVariants.{Done, NotYet,
 
 use crate::reading::{Unread, read_job};
 use crate::section::{Ending, Run, interpret};
+use crate::simple_texts::simple;
 use crate::status::Status;
 use crate::texts::{close, end_line, not_yet_line, refuse_pages, report, too_large_line};
 use crate::word::Command;
 use dsc_split::{Section, Sections, SplitError, split};
 use copy_lists::{NoMemory, Text};
-use ps_scan::simple;
 use rip_ports::{Failed, Sink, Source};
 use std::alloc::Global;
 

@@ -1,6 +1,6 @@
 //! The run of a section of whole numbers.
 ghost use Rattle.std.specs.Prelude.{◌≡◌, [], ◌++◌, length, IfOk, if◌then◌else◌, true};
-ghost use Rattle.ps_scan.specs.Simple.{is_plain, IsPlainToken};
+ghost use Rattle.rip_run.specs.Simple.{is_plain, IsPlainToken};
 ghost use Rattle.rip_run.specs.Section.{has_room, number_line, run_of, step_of, step_of_name, step_of_number, Steps};
 ghost use Rattle.rip_run.specs.Operators.{operator_named};
 ghost use Rattle.rip_run.specs.declared.section.Ending.TheVariants.{Stopped};
@@ -41,7 +41,7 @@ pub(crate) struct Run {
 }
 
 /// Runs the text of a section, one of whole numbers and names alone, from an empty stack.
-#[tactic(auto, using(crate::proofs::Tokens::run_begins, crate::proofs::Tokens::token_goes_on, crate::proofs::Tokens::token_ends, crate::proofs::Tokens::error_ends, crate::proofs::Tokens::text_ends))]
+#[tactic(auto, using(crate::proofs::Tokens::run_begins, crate::proofs::Tokens::token_goes_on, crate::proofs::Tokens::token_ends, crate::proofs::Tokens::error_ends, crate::proofs::Tokens::text_ends, crate::proofs::PlainTokens::token_is_plain, crate::proofs::PlainTokens::rest_is_plain))]
 pub(crate) fn interpret(alloc: Global, text: &[u8]) -> Result<Run, NoMemory>
     requires { is_plain text.now ≡ true }
     ensures { IfOk result (λ run. run ≡ run_of text.now) }

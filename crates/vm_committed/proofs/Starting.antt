@@ -9,6 +9,7 @@ use Rattle.ps_objects.specs.declared.cell.Cell.{Cell}
 use Rattle.ps_memory.specs.Order.{cell_cmp}
 use Rattle.ps_memory.specs.Memory.{is_global, Cells, Memory, here, blank}
 use Rattle.ps_memory.proofs.Order.{cell_is, cell_itself}
+use Rattle.ps_objects.specs.declared.settings.Settings.{Settings}
 use Rattle.ps_meaning.specs.Start.{version, product, start_locals, start_globals, start_strings, start_memory}
 use Rattle.vm_content.proofs.Cells.{cell_found}
 use Rattle.vm_journal.specs.Part.{AreLocal}
@@ -52,6 +53,6 @@ have_holders l g s p q r c n = ap (λ m. get m c) r ∙ cell_found start_strings
     go false i true j = absurd (product_there (ap (λ m. get m product) (sym q) ∙ there product (cell_is c product j)))
     go false i false j = refl
 
-pub start_made : (M : Memory) (w h : ℕ) → M.locals ≡ from_entries start_locals → M.globals ≡ from_entries start_globals → M.strings ≡ from_entries start_strings → M.rand ≡ 1 → M.page ≡ here (blank w h) → M.kept ≡ []
-    → M ≡ start_memory w h
-start_made M w h l g s r p k = λ i. record { locals = l i; globals = g i; strings = s i; rand = r i; page = p i; kept = k i }
+pub start_made : (M : Memory) (settings : Settings) → M.locals ≡ from_entries start_locals → M.globals ≡ from_entries start_globals → M.strings ≡ from_entries start_strings → M.rand ≡ 1 → M.page ≡ here (blank settings.width settings.height) → M.kept ≡ []
+    → M ≡ start_memory settings
+start_made M settings l g s r p k = λ i. record { locals = l i; globals = g i; strings = s i; rand = r i; page = p i; kept = k i }

@@ -3,7 +3,6 @@ use Rattle.std.proofs.Common.{◌≡◌, ℕ, Bool, true, false, cond, ◌&&◌,
 use Rattle.std.specs.FinMap.{FinMap, get, remove, retain_keys, from_entries, get-remove}
 use Rattle.std.specs.Map.{lookup}
 use Rattle.std.specs.BTreeMap.{BTreeMap, is_at, Updates, IsUpperBound}
-use Rattle.ps_objects.specs.Cell.{IsNewer}
 use Rattle.ps_objects.specs.declared.cell.Cell.{Cell}
 use Rattle.ps_objects.specs.declared.cell.SaveName.{SaveName}
 use Rattle.ps_memory.specs.Order.{cell_cmp}
@@ -11,7 +10,7 @@ use Rattle.ps_memory.specs.Memory.{is_global, newer, Content, Cells}
 use Rattle.ps_memory.specs.Ownership.{same_cell}
 use Rattle.ps_memory.proofs.Order.{cells_total}
 use Rattle.ps_memory.proofs.Keeping.{keep_all, keep_change}
-use Rattle.vm_content.specs.Newer.{comes_after}
+use Rattle.ps_objects.specs.Cell.{comes_after}
 use Rattle.vm_content.proofs.Cells.{cell_found, cell_removed, last_is_greatest, newer_after, same_kept, all_kept, kept_removed}
 use Rattle.vm_journal.specs.Part.{AreLocal, HaveCells, kept_from}
 
@@ -87,18 +86,18 @@ all_dropped s m n t u a d h = (
 
 pub dropped_one : (s : SaveName) (m n o : BTreeMap Cell Content) (t u w : BTreeMap Cell (List ℕ)) (k : Cell) (x : Content)
     → Dropped s (from_entries {R = cell_cmp} m.entries) (from_entries {R = cell_cmp} t.entries) (from_entries n.entries) (from_entries u.entries)
-    → lookup (is_at (cell_cmp k)) n.entries ≡ Some x → IsNewer k s → Updates cell_cmp n o k None → Updates cell_cmp u w k None
+    → lookup (is_at (cell_cmp k)) n.entries ≡ Some x → comes_after k s ≡ true → Updates cell_cmp n o k None → Updates cell_cmp u w k None
     → Dropped s (from_entries {R = cell_cmp} m.entries) (from_entries {R = cell_cmp} t.entries) (from_entries o.entries) (from_entries w.entries)
 dropped_one s m n o t u w k x d e h f g =
-    let next = one_dropped s (from_entries m.entries) (from_entries n.entries) (from_entries t.entries) (from_entries u.entries) k x d (cell_found n.entries k ∙ e) (newer_after k s h) in
+    let next = one_dropped s (from_entries m.entries) (from_entries n.entries) (from_entries t.entries) (from_entries u.entries) k x d (cell_found n.entries k ∙ e) h in
     subst (λ (p : Cells × FinMap cell_cmp (List ℕ)). Dropped s (from_entries m.entries) (from_entries t.entries) p.0 p.1)
     (λ i. (sym (cell_removed n.entries o.entries k f.0) i, sym (cell_removed u.entries w.entries k g.0) i)) next
 
 pub dropped_all : (s : SaveName) (m n : BTreeMap Cell Content) (t u : BTreeMap Cell (List ℕ)) (k : Cell) → AreLocal (from_entries {R = cell_cmp} m.entries)
     → Dropped s (from_entries {R = cell_cmp} m.entries) (from_entries {R = cell_cmp} t.entries) (from_entries n.entries) (from_entries u.entries)
-    → IsUpperBound cell_cmp n k → ¬ (IsNewer k s)
+    → IsUpperBound cell_cmp n k → comes_after k s ≡ false
     → (from_entries {R = cell_cmp} n.entries ≡ kept_from s (from_entries m.entries)) × (from_entries {R = cell_cmp} u.entries ≡ kept_from s (from_entries t.entries))
-dropped_all s m n t u k a d bound old = all_dropped s (from_entries m.entries) (from_entries n.entries) (from_entries t.entries) (from_entries u.entries) a d (last_is_greatest n k s bound old)
+dropped_all s m n t u k a d bound old = all_dropped s (from_entries m.entries) (from_entries n.entries) (from_entries t.entries) (from_entries u.entries) a d (last_is_greatest n k s bound (λ new. true≢false (sym (newer_after k s new) ∙ old)))
 
 nothing : {X : Type 0} (es : List (Cell × X)) (q : Cell) → ¬ (0 < length es) → IsSome (lookup (is_at (cell_cmp q)) es) → true ≡ false
 nothing [] q h i = sym i

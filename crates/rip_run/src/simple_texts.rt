@@ -1,11 +1,12 @@
 //! Texts of integers and names alone.
 ghost use Rattle.std.specs.Prelude.{◌≡◌, ◌≤◌, ◌||◌, ◌==◌, length, true, IsTrue};
 ghost use Rattle.std.specs.List.{list_any};
-ghost use Rattle.ps_scan.specs.Simple.{is_plain_byte, is_plain_row, is_plain, is_simple};
+ghost use Rattle.rip_run.specs.Simple.{is_plain_byte, is_plain_row, is_plain, is_simple};
 
-use crate::characters::{is_special, skip_blanks, split_row};
-use crate::numbers::{integer_value, is_decimal, is_integer, is_radix};
-use crate::rows::NAME_LIMIT;
+use ps_names::NAME_LIMIT;
+use ps_scan::{
+    integer_value, is_decimal, is_integer, is_radix, is_special, skip_blanks, split_row,
+};
 
 /// How a text with document structure begins.
 const HEADER: &[u8] = b"%!PS-Adobe-";
@@ -64,7 +65,7 @@ fn is_plain(text: &[u8]) -> bool
 
 /// Whether a text has integers and names alone, and does not begin as one with document structure.
 #[tactic(auto, unfolding(crate::specs::Simple::is_simple))]
-pub fn simple(text: &[u8]) -> bool
+pub(crate) fn simple(text: &[u8]) -> bool
     ensures simple { result ≡ is_simple text.now }
     ensures plain { IsTrue result → is_plain text.now ≡ true }
 {

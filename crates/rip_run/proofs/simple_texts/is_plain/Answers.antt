@@ -1,7 +1,7 @@
 use Rattle.std.proofs.Common.{arith}
 use Rattle.std.proofs.lemmas.Bool.Decides.{nat_tests}
-use Rattle.ps_scan.proofs.PlainLemmas.{row_refused, row_taken, text_ended, byte_refused, byte_taken}
-use Rattle.ps_scan.proofs.simple_texts.is_plain.Goals as goal
+use Rattle.rip_run.proofs.PlainLemmas.{row_refused, row_taken, text_ended, byte_refused, byte_taken}
+use Rattle.rip_run.proofs.simple_texts.is_plain.Goals as goal
 
 pub returns-then-not-is_plain_row : goal.returns-then-not-is_plain_row
 returns-then-not-is_plain_row c =

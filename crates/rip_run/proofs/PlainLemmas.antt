@@ -6,7 +6,7 @@ use Rattle.std.proofs.lemmas.List.Sums.{prefix_len-le-length}
 use Rattle.std.proofs.lemmas.List.{length-take, take_all}
 use Rattle.ps_scan.specs.Characters.{is_white, is_delimiter, is_line_end, blanks}
 use Rattle.ps_scan.specs.Numbers.{is_integer, is_decimal, is_radix}
-use Rattle.ps_scan.specs.Simple.{uncommented, is_plain_byte, is_plain_row, is_plain}
+use Rattle.rip_run.specs.Simple.{uncommented, is_plain_byte, is_plain_row, is_plain}
 
 one_more : (n : ℕ) → 1 + n ≡ suc n
 one_more n = omega arith
