@@ -1,7 +1,8 @@
 -- Taking bytes and codes from a source.
-use Rattle.std.proofs.Common.{◌≡◌, ℕ, zero, suc, ◌+◌, ◌-◌, ◌<◌, ◌≤◌, Bool, true, false, List, [], ◌∷◌, length, get_or, refl, sym, ap, subst, ◌∙◌, arith, ⊎_elim, Option, Some, None}
-use Rattle.std.specs.Prelude.{slice_get, slice_set}
-use Rattle.std.proofs.lemmas.Bool.{cases_Bool, cond-true, cond-false}
+use Rattle.std.proofs.Common.{◌≡◌, ℕ, zero, suc, ◌+◌, ◌-◌, ◌<◌, ◌≤◌, Bool, true, false, List, [], ◌∷◌, length, drop, get_or, refl, sym, ap, subst, ◌∙◌, arith, ⊎_elim, Option, Some, None, add-one, drop_of_length-le}
+use Rattle.std.specs.Prelude.{slice_get, slice_set, slice_index, nat_lt, cond}
+use Rattle.std.proofs.lemmas.Bool.{cases_Bool, cond-true, cond-false, lt-ltb, ltb-true}
+use Rattle.std.proofs.Math.Seq.{drop-cons}
 use Rattle.filter_tower.specs.declared.tower.FilterKind.{FilterKind}
 use Rattle.filter_tower.specs.declared.tower.FilterLayer.{FilterLayer}
 use Rattle.filter_tower.specs.declared.standing.FilterState.TheVariants.{Open, Ended, Failed}
@@ -12,12 +13,12 @@ use Rattle.data_filters.specs.declared.given.Given.TheVariants.{Byte, End, Bad}
 use Rattle.data_filters.specs.declared.code.Code.{Code}
 use Rattle.data_filters.specs.declared.code.Code.TheVariants.{Gives, Ends, EndsWithSource, Wrong}
 use Rattle.data_filters.specs.declared.reading.Reading.{Reading}
-use Rattle.data_filters.specs.Rests.{Rest, byte, ended, broken, has_byte, size, Yields}
+use Rattle.data_filters.specs.Rests.{Rest, byte, ended, broken, has_byte, size, rest_of, onto, Yields}
 use Rattle.data_filters.specs.Codes.{passes, code, left_behind, takes_more, length_taken}
-use Rattle.data_filters.specs.Layers.{Source, Call, source_of, source_below, standing_at, put, at_end, at_fault, rest, taking, end_taken, is_spent, settled, code_begun, code_taken, gives_by, layer_gives, text_gives, give}
+use Rattle.data_filters.specs.Layers.{Source, Call, the_text, source_of, source_below, standing_at, put, at_end, at_fault, rest, taking, end_taken, is_spent, has_pending, behind_code, settled, code_begun, code_taken, gives_by, layer_gives, text_gives, give}
 use Rattle.data_filters.specs.Found.{GivesPending}
 use Rattle.data_filters.proofs.Readings.{standing_is}
-use Rattle.data_filters.proofs.SourceLemmas.{source_zero, source_up, source_is_below, below_is, rest_agree, layer_is}
+use Rattle.data_filters.proofs.SourceLemmas.{rest_over, source_zero, source_up, source_is_below, below_is, rest_agree, layer_is}
 use Rattle.data_filters.proofs.GiveLemmas.{Goes, give_goes}
 
 -- a source as it stands in a copy
@@ -253,3 +254,58 @@ taken_all text k kind below call reading = refl
 pub taken_wrong : (text : List ℕ) (k : ℕ) (kind : FilterKind) (below : Source) (call : Call) (reading : Reading) → code_taken text k kind below call reading Wrong ≡ (Bad, put k at_fault reading)
 unfolding code_taken
 taken_wrong text k kind below call reading = refl
+
+-- bytes that are taken from the text
+
+text_left : (text : List ℕ) (reading : Reading) → reading.place < length text
+    → rest text the_text reading ≡ byte (slice_index text reading.place) (rest text the_text (record reading { place = reading.place + 1 }))
+unfolding rest
+text_left text reading lt = ap rest_of (drop-cons text reading.place 0 lt ∙ ap (λ n. slice_index text reading.place ∷ drop n text) (sym (add-one reading.place)))
+
+text_called : (text : List ℕ) (reading : Reading) → reading.place < length text
+    → give text the_text reading ≡ (Byte (slice_index text reading.place), record reading { place = reading.place + 1 })
+unfolding give
+text_called text reading lt = cond-true (nat_lt reading.place (length text)) _ (End, reading) (lt-ltb reading.place (length text) lt)
+
+pub text_byte_taken : (text : List ℕ) (kind : FilterKind) (left after : Option ℕ) (old new : Reading) → old.place < length text → true ≡ takes_more left
+    → after ≡ left_behind kind (slice_index text old.place) left → new ≡ record old { place = old.place + 1 }
+    → taking (length_taken kind (rest text the_text new) after) (give text the_text) new ≡ taking (length_taken kind (rest text the_text old) left) (give text the_text) old
+text_byte_taken text kind left after old new lt more e is =
+    let b : ℕ = slice_index text old.place in
+    let next : Reading = record old { place = old.place + 1 } in
+    let n : ℕ = length_taken kind (rest text the_text next) (left_behind kind b left) in
+    let count : length_taken kind (rest text the_text old) left ≡ suc n =
+        let c = ap (λ x. length_taken kind x left) (text_left text old lt) ∙ length_behind kind b (rest text the_text next) left (sym more) in omega (arith, c)
+    in
+    ap (λ x. taking (length_taken kind (rest text the_text new) x) (give text the_text) new) e
+    ∙ ap (λ r. taking (length_taken kind (rest text the_text r) (left_behind kind b left)) (give text the_text) r) is
+    ∙ sym (ap (λ m. taking m (give text the_text) old) count ∙ ap (λ (x : Given × Reading). taking n (give text the_text) x.1) (text_called text old lt))
+
+pub text_over : (text : List ℕ) (kind : FilterKind) (left : Option ℕ) (reading : Reading) → length text ≤ reading.place
+    → reading ≡ taking (length_taken kind (rest text the_text reading) left) (give text the_text) reading
+unfolding rest
+text_over text kind left reading le =
+    sym (none_to_take kind (rest_of (drop reading.place text)) left (give text the_text) reading (ap (λ xs. has_byte (rest_of xs)) (drop_of_length-le text le)))
+
+pub text_all_taken : (text : List ℕ) (kind : FilterKind) (left : Option ℕ) (reading : Reading) → false ≡ takes_more left
+    → reading ≡ taking (length_taken kind (rest text the_text reading) left) (give text the_text) reading
+text_all_taken text kind left reading f = sym (all_taken kind (rest text the_text reading) left (give text the_text) reading (sym f))
+
+-- a layer with bytes of a code has a byte to give
+pub pending_has : (text : List ℕ) (layers : List FilterLayer) (source k : ℕ) (now : Reading) (standing : Standing) → IsTower layers → source ≤ length layers → source ≡ suc k
+    → slice_get now.standings k ≡ Some standing → true ≡ has_pending standing → true ≡ has_byte (rest text (source_of layers source) now)
+pending_has text layers source k now standing tower h e at some =
+    let lt : standing.from < length standing.code = ltb-true standing.from (length standing.code) (sym some) in
+    let bytes = drop-cons standing.code standing.from 0 lt in
+    sym (ap (λ s. has_byte (rest text s now)) (source_up layers source k tower h e)
+        ∙ ap has_byte (rest_over text k (kind_at layers k) (source_below layers k) now standing (standing_is now k standing at))
+        ∙ ap (λ xs. has_byte (onto xs (behind_code (kind_at layers k) standing (rest text (source_below layers k) now)))) bytes)
+
+-- what a layer over the text takes
+pub taken_from_text : (text : List ℕ) (layers : List FilterLayer) (k : ℕ) (one other : FilterLayer) (taken : Option ℕ) (old new : Reading) → k < length layers
+    → (get_or layers k one).below ≡ 0 → new ≡ taking (length_taken (get_or layers k other).kind (rest text the_text old) taken) (give text the_text) old
+    → new ≡ taking (length_taken (kind_at layers k) (rest text (source_below layers k) old) taken) (give text (source_below layers k)) old
+taken_from_text text layers k one other taken old new h z is =
+    let source : the_text ≡ source_below layers k = sym (source_zero layers) ∙ ap (source_of layers) (sym z) ∙ below_source layers k one h in
+    is ∙ ap (λ x. taking (length_taken x (rest text the_text old) taken) (give text the_text) old) (kind_is layers k other h)
+    ∙ ap (λ s. taking (length_taken (kind_at layers k) (rest text s old) taken) (give text s) old) source

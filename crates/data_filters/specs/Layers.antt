@@ -81,6 +81,10 @@ end_taken k kind source call reading (Ends taken) = put k at_end (taken_from kin
 end_taken k kind source call reading EndsWithSource = put k at_end (taken_from kind source call reading EndsWithSource)
 end_taken k kind source call reading Wrong = reading
 
+-- whether a layer has bytes of its newest code that it hasn't given
+abbrev pub has_pending : Standing → Bool
+has_pending standing = nat_lt standing.from (length standing.code)
+
 -- whether a layer has given all bytes of its newest code, and goes on
 abbrev pub is_open : FilterState → Bool
 is_open Open = true

@@ -3,7 +3,7 @@ ghost use Rattle.std.specs.Prelude.{◌≡◌, ℕ, ◌+◌, ◌≤◌, ◌<◌,
 ghost use Rattle.filter_tower.specs.Layers.{IsTower, below_at, kind_at};
 ghost use Rattle.data_filters.specs.Rests.{has_byte};
 ghost use Rattle.data_filters.specs.Codes.{code, passes, left_behind, takes_more, length_taken};
-ghost use Rattle.data_filters.specs.Layers.{source_of, source_below, rest, standing_at, is_spent, put, at_end, taking, settled, code_begun, code_taken, give};
+ghost use Rattle.data_filters.specs.Layers.{the_text, source_of, source_below, rest, standing_at, is_spent, has_pending, put, at_end, taking, settled, code_begun, code_taken, give};
 
 use crate::Given;
 use crate::ahead::{next_code, read};
@@ -26,6 +26,13 @@ fn copy_lowest(now: &Reading, ahead: &mut Reading, count: usize)
     }
 }
 
+/// Whether a layer has bytes of its newest code that it hasn't given.
+fn has_pending(standing: &Standing) -> bool
+    ensures { result ≡ has_pending standing.now }
+{
+    standing.from < standing.code.len()
+}
+
 /// Whether a source would give a byte.
 fn gives_byte(
     text: &[u8],
@@ -41,6 +48,9 @@ fn gives_byte(
     ensures value { result ≡ has_byte (rest text.now (source_of layers.now source) now.now) }
     ensures same { length ahead.new.standings ≡ length ahead.old.standings }
 {
+    if source > 0 && has_pending(now.standings.at(source - 1)) {
+        return true;
+    }
     copy_lowest(now, ahead, source);
     match read(text, layers, ahead, source) {
         Given::Byte(_) => true,
@@ -110,6 +120,20 @@ fn takes_more(left: Option<usize>) -> bool
     }
 }
 
+/// Takes so many bytes from the text, those passed over not counted, or all that it has.
+#[tactic(auto, using(crate::proofs::TakeLemmas::text_byte_taken, crate::proofs::TakeLemmas::text_over, crate::proofs::TakeLemmas::text_all_taken))]
+fn take_text(text: &[u8], kind: &FilterKind, now: &mut Reading, taken: Option<usize>)
+    ensures taken { now.new ≡ taking (length_taken kind.now (rest text.now the_text now.old) taken)
+        (give text.now the_text) now.old }
+    ensures same { now.new.standings ≡ now.old.standings }
+{
+    let mut left = taken;
+    'bytes: while takes_more(left) && now.place < text.len() {
+        left = left_behind(kind, text[now.place], left);
+        now.place += 1;
+    }
+}
+
 /// What a source gives.
 #[cycle(give)]
 pub(crate) fn give(
@@ -163,6 +187,10 @@ fn take(
     ensures ahead { length ahead.new.standings ≡ length ahead.old.standings }
 {
     let below = layers[layer].below as usize;
+    if below == 0 {
+        take_text(text, &layers[layer].kind, now, taken);
+        return;
+    }
     let mut left = taken;
     'bytes: while takes_more(left) {
         if !gives_byte(text, layers, now, ahead, below) {

@@ -8,7 +8,7 @@ use Rattle.data_filters.specs.declared.reading.Reading.{Reading}
 use Rattle.data_filters.specs.Rests.{has_byte}
 use Rattle.data_filters.specs.Codes.{left_behind}
 use Rattle.data_filters.specs.Layers.{code_taken, source_below, rest, give}
-use Rattle.data_filters.proofs.TakeLemmas.{gives_text, gives_pending, gives_end, gives_fault, gives_code, settled_not_at, settled_at, taken_none, taken_some, taken_end, taken_all, taken_wrong, one_taken, no_end, no_fault, below_source, kind_is}
+use Rattle.data_filters.proofs.TakeLemmas.{taken_from_text, gives_text, gives_pending, gives_end, gives_fault, gives_code, settled_not_at, settled_at, taken_none, taken_some, taken_end, taken_all, taken_wrong, one_taken, no_end, no_fault, below_source, kind_is}
 use Rattle.data_filters.proofs.give.+give.Goals as goal
 
 pub give-returns-then-source-eq0-clause-given : goal.give-returns-then-source-eq0-clause-given
@@ -125,3 +125,8 @@ take_code-returns-in-Wrong-clause-given t c =
     ap (code_taken c.args.text.now c.args.layer (kind_at c.args.layers.now c.args.layer) (source_below c.args.layers.now c.args.layer) (give c.args.text.now (source_below c.args.layers.now c.args.layer)) c.args.now.now) (sym c.in-Wrong.ensures.value)
     ∙ taken_wrong c.args.text.now c.args.layer (kind_at c.args.layers.now c.args.layer) (source_below c.args.layers.now c.args.layer) (give c.args.text.now (source_below c.args.layers.now c.args.layer)) c.args.now.now
     ∙ ap (λ (x : List Standing). (Bad, record c.args.now.now { standings = x })) (sym (c.put-in-Wrong.ensures ∙ ap (slice_set c.args.now.now.standings c.args.layer) c.empty-in-Wrong.ensures))
+
+pub take-returns-then-below-eq0-clause-taken : goal.take-returns-then-below-eq0-clause-taken
+take-returns-then-below-eq0-clause-taken t c =
+    taken_from_text c.args.text.now c.args.layers.now c.args.layer c.index-layers-layer.result c.index-layers-layer-then-below-eq0.result c.args.taken c.args.now.now c.take_text.new.now
+        c.requires.stands c.if-below-eq0.true c.take_text.ensures.taken
