@@ -1,15 +1,16 @@
 -- Lists of views, tickets in them, and functions from pages that differ at one.
 use Rattle.std.proofs.Common.{◌≡◌, ◌≢◌, ℕ, suc, zero, ◌+◌, ◌-◌, ◌<◌, ◌≤◌, ◌==◌, List, [], ◌∷◌, length, get_or, set, Bool, true, false, cond, nat_le, refl, sym, ap, ◌∙◌, sum_by, arith, get_or-set_same, get_or-set_other}
+use Rattle.std.specs.Prelude.{if◌then◌else◌}
 use mathlib.Core.Option.{some, some-injective, some-ne-none}
 use lib.ListN.{get_elem?}
-use Rattle.std.proofs.lemmas.List.Sums.{sum_by-set}
+use Rattle.std.proofs.lemmas.List.Sums.{sum_by-set, sum_by-cons}
 use Rattle.std.proofs.lemmas.Bool.Decides.{nat_tests}
 use Rattle.atomic_table.proofs.Lists.{one_turn}
 use Rattle.commit_places.specs.declared.view.Stage.{Stage}
 use Rattle.commit_places.specs.declared.view.Ticket.TheVariants.{Free, Held}
 use Rattle.commit_places.specs.declared.view.View.{View}
 use Rattle.commit_places.specs.declared.view.View.TheVariants.{Joined}
-use Rattle.commit_places.specs.Rule.{Status, place_of, ticket_of, ticket_at}
+use Rattle.commit_places.specs.Rule.{Status, place_of, ticket_of, ticket_at, times}
 
 pub is_eq : (p q : ℕ) → (p == q) ≡ true → p ≡ q
 is_eq p q h = grind (arith, nat_tests)
@@ -82,3 +83,13 @@ same_page a c q p l r l' r' e =
       | false ↦ λ h. let le : p - 1 < q - 1 = gt_is _ _ h in let t : p - 1 ≡ q - 1 = one_turn (p - 1) (q - 1) a (omega arith) (omega arith) (sym e) in omega arith
     ] in
     cases (nat_le (q - 1) (p - 1)) refl
+
+pub times_here : (p q : ℕ) (l : List ℕ) → p ≡ q → times q (p ∷ l) ≡ 1 + times q l
+times_here p q l e = sum_by-cons (λ (y : ℕ). if (y == q) then 1 else 0) p l ∙ ap (λ (b : Bool). (if b then 1 else 0) + times q l) (ap (λ (y : ℕ). y == q) e ∙ eq_is q)
+
+pub times_else : (p q : ℕ) (l : List ℕ) → p ≢ q → times q (p ∷ l) ≡ times q l
+times_else p q l ne = let a : times q (p ∷ l) ≡ 0 + times q l = sum_by-cons (λ (y : ℕ). if (y == q) then 1 else 0) p l ∙ ap (λ (b : Bool). (if b then 1 else 0) + times q l) (ne_is p q ne) in omega arith
+
+-- a page before a list counts beside it
+pub times_more : (p q : ℕ) (l : List ℕ) → times q (p ∷ l) ≡ times q (p ∷ []) + times q l
+times_more p q l = by_eq p q (times q (p ∷ l) ≡ times q (p ∷ []) + times q l) (λ e. let a = times_here p q l e in let b = times_here p q [] e in omega arith) (λ ne. let a = times_else p q l ne in let b = times_else p q [] ne in omega arith)

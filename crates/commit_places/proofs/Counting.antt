@@ -12,7 +12,7 @@ use Rattle.commit_places.specs.declared.view.Next.TheVariants.{Waiting, Taken}
 use Rattle.commit_places.specs.declared.view.CommitterView.{CommitterView}
 use Rattle.commit_places.specs.declared.view.View.{View}
 use Rattle.commit_places.specs.declared.view.View.TheVariants.{Committer, Joined}
-use Rattle.commit_places.specs.Rule.{Status, undrawn, held, lying, taking, gone, lost, mark, place_of, hands_of, overs_of, Fits, NextFits, Kept}
+use Rattle.commit_places.specs.Rule.{Status, undrawn, held, lying, taking, gone, lost, mark, place_of, hands_of, overs_of, Fits, NextFits, Kept, times, drawn_by, finished_by, pages_in, ticket_of}
 use Rattle.commit_places.specs.Steps.{Commits, Stops}
 use Rattle.commit_places.proofs.Basics.{by_eq, got, sum_put, tickets_stay}
 use Rattle.commit_places.proofs.Roster.{committer_is}
@@ -38,13 +38,13 @@ module _ {C : Type 0} (right : ℕ → C → Type 0) (sizes : Sizes) (s : State 
   range q h = let a = h.0 in (omega (arith, last_same), h.1)
 
   -- the committer's numbers change, and each page's status fits as before
-  counted : (w : CommitterView) → hands_of (Committer w) ≡ hands_of (Committer b) → overs_of (Committer w) ≡ overs_of (Committer b) → w.hands ≡ b.hands
+  counted : (w : CommitterView) → hands_of (Committer w) ≡ hands_of (Committer b) → overs_of (Committer w) ≡ overs_of (Committer b) → w.hands ≡ b.hands → (w.drawn ≡ b.drawn) × (w.finished ≡ b.finished)
       → n ≡ (if w.is_stopped then mark else w.count)
       → (w.count ≤ get_or s.words 0 0) × (w.count ≤ sizes.pages)
       → ((q : ℕ) → Fits right sizes w.count w.next w.is_stopped Words s.homes q (k.status q))
       → NextFits w.next (k.status (w.count + 1))
       → Kept right sizes (record { words = Words; homes = s.homes; views = set s.views 0 (Committer w) })
-  counted w same_hands same_overs hands is_n fits pages next =
+  counted w same_hands same_overs hands lists is_n fits pages next =
       let v : View = Committer b in
       let there = got s.views 0 v Joined at in
       record {
@@ -65,6 +65,9 @@ module _ {C : Type 0} (right : ℕ → C → Type 0) (sizes : Sizes) (s : State 
         ticket_is = λ q j g e. k.ticket_is q j g (sym (tickets_stay s.views 0 v (Committer w) at refl j) ∙ e);
         overs = (let o = k.overs in omega (arith, last_same, sum_put overs_of s.views 0 v (Committer w) at));
         hands = (let h = k.hands in let e = ap (λ (x : CommitterView). x.hands) is in omega (arith, sum_put hands_of s.views 0 v (Committer w) at));
+        drawn_once = λ q some_page. (let a = sum_put (λ (u : View). times q (drawn_by u)) s.views 0 v (Committer w) at in let o = k.drawn_once q some_page in let c = ap (times q) lists.0 in omega arith);
+        finished_once = λ q some_page. (let a = sum_put (λ (u : View). times q (finished_by u)) s.views 0 v (Committer w) at in let o = k.finished_once q some_page in let c = ap (times q) lists.1 in omega arith);
+        own = λ j u e q. ⊎_elim (λ l. subst (λ (y : View). times q (finished_by y) + times q (pages_in (ticket_of y)) ≤ times q (drawn_by y)) l.1 (let o = k.own 0 v at q in let c = ap (times q) lists.0 in let d = ap (times q) lists.1 in omega arith)) (λ r. k.own j u r.1 q) (at_set s.views 0 j (Committer w) u e);
         hands_fit = (let h = k.hands_fit in let e = ap (λ (x : CommitterView). x.hands) is in omega arith);
       }
 
@@ -85,7 +88,7 @@ module _ {C : Type 0} (right : ℕ → C → Type 0) (sizes : Sizes) (s : State 
   counts_fit = subst (λ (c : CommitterView). (c.count ≤ get_or s.words 0 0) × (c.count ≤ sizes.pages)) is k.count_fits
 
   pub stopped : n ≡ mark → Kept right sizes (record { words = Words; homes = s.homes; views = set s.views 0 (Committer (record b { is_stopped = true })) })
-  stopped n_is = counted (record b { is_stopped = true }) refl refl refl n_is counts_fit (λ q. stops q (k.status q) (old_fits q)) next_is
+  stopped n_is = counted (record b { is_stopped = true }) refl refl refl (refl, refl) n_is counts_fit (λ q. stops q (k.status q) (old_fits q)) next_is
 
   -- the page that was taken is committed
   module _ (done : b.next ≡ Taken) where
@@ -112,7 +115,7 @@ module _ {C : Type 0} (right : ℕ → C → Type 0) (sizes : Sizes) (s : State 
     commits q lost e h = (range q h.0, h.1)
 
     pub committed : b.is_stopped ≡ false → n ≡ b.count + 1 → Kept right sizes (record { words = Words; homes = s.homes; views = set s.views 0 (Committer (record b { count = b.count + 1; next = Waiting })) })
-    committed runs n_is = counted (record b { count = b.count + 1; next = Waiting }) refl refl refl (n_is ∙ ap (λ (t : Bool). if t then mark else b.count + 1) (sym runs)) gone_fits.0 (λ q. commits q (k.status q) refl (old_fits q)) tt
+    committed runs n_is = counted (record b { count = b.count + 1; next = Waiting }) refl refl refl (refl, refl) (n_is ∙ ap (λ (t : Bool). if t then mark else b.count + 1) (sym runs)) gone_fits.0 (λ q. commits q (k.status q) refl (old_fits q)) tt
 
 -- what word 1 has, as the committer knows
 word_is : {C : Type 0} (right : ℕ → C → Type 0) (sizes : Sizes) (s : State (Option C) View) (k : Kept right sizes s) (b : CommitterView) → k.committer ≡ b → get_or s.words 1 0 ≡ (if b.is_stopped then mark else b.count)

@@ -1,5 +1,5 @@
 -- A draw keeps the rule.
-use Rattle.std.proofs.Common.{◌≡◌, ◌≢◌, ℕ, ◌+◌, ◌-◌, ◌%◌, ◌^◌, ◌<◌, ◌≤◌, inl, inr, List, get_or, set, Bool, true, false, nat_le, refl, sym, ap, ◌∙◌, subst, arith, length-set, get_or-set_same, get_or-set_other, mod-eq_of_lt, ⊎_elim}
+use Rattle.std.proofs.Common.{◌≡◌, ◌≢◌, ℕ, ◌+◌, ◌-◌, ◌%◌, ◌^◌, ◌<◌, ◌≤◌, inl, inr, List, get_or, set, Bool, true, false, nat_le, refl, sym, ap, ◌∙◌, subst, arith, length-set, get_or-set_same, get_or-set_other, mod-eq_of_lt, ⊎_elim, ◌∷◌}
 use Rattle.std.specs.Prelude.{Option, if◌then◌else◌}
 use mathlib.Core.Option.{some, none}
 use lib.ListN.{get_elem?}
@@ -11,10 +11,10 @@ use Rattle.commit_places.specs.declared.view.Ticket.TheVariants.{Free, Held}
 use Rattle.commit_places.specs.declared.view.HandView.{HandView}
 use Rattle.commit_places.specs.declared.view.View.{View}
 use Rattle.commit_places.specs.declared.view.View.TheVariants.{Hand}
-use Rattle.commit_places.specs.Rule.{Status, undrawn, held, place_of, HasPlace, overs_of, Kept}
+use Rattle.commit_places.specs.Rule.{Status, undrawn, held, place_of, HasPlace, overs_of, times, draws_of, finishes_of, pages_in, Kept}
 use Rattle.commit_places.specs.Steps.{Draws}
-use Rattle.commit_places.proofs.Basics.{le_is, gt_is, no_ticket}
-use Rattle.commit_places.proofs.Frame.{F, new, new_else, turned}
+use Rattle.commit_places.proofs.Basics.{le_is, gt_is, no_ticket, times_more}
+use Rattle.commit_places.proofs.Frame.{F, new, new_else, same_count, more_count, turned}
 use Rattle.commit_places.proofs.Hands.{not_committer, small_ticket, first_stays, fresh, next_kept}
 
 undrawn_held : (j : ℕ) (g : Stage) → undrawn ≡ held j g → ⊥
@@ -37,6 +37,10 @@ module _ {C : Type 0} (right : ℕ → C → Type 0) (sizes : Sizes) (s : State 
   is_undrawn : k.status (N + 1) ≡ undrawn
   is_undrawn = fresh right sizes s k (N + 1) (k.status (N + 1)) (omega arith) (k.each_page (N + 1))
 
+  -- what the hand finished, it drew
+  no_pages : (q : ℕ) → times q h.finished ≤ times q h.drawn
+  no_pages q = let o = k.own id (Hand h) at q in omega arith
+
   -- the next page gets the status x, and the hand the view w
   module _ (x : Status) (w : HandView) where
     abbrev St : ℕ → Status
@@ -49,8 +53,11 @@ module _ {C : Type 0} (right : ℕ → C → Type 0) (sizes : Sizes) (s : State 
         → ((j : ℕ) (g : Stage) → x ≡ held j g → (j ≡ id) × (w.ticket ≡ Held g (N + 1)))
         → ((q : ℕ) (g : Stage) → w.ticket ≡ Held g q → (q ≡ N + 1) × (x ≡ held id g))
         → overs_of (Hand w) + (N - sizes.pages) ≡ overs_of (Hand h) + (N + 1 - sizes.pages)
+        → ((q : ℕ) → times q w.drawn + draws_of (k.status q) ≡ times q h.drawn + draws_of (St q))
+        → finishes_of x ≡ finishes_of (k.status (N + 1)) → w.finished ≡ h.finished
+        → ((q : ℕ) → times q w.finished + times q (pages_in w.ticket) ≤ times q w.drawn)
         → Kept right sizes (record { words = Words; homes = s.homes; views = set s.views id (Hand w) })
-    drawn fits after own overs = turned right sizes s k (N + 1) x id (Hand h) (Hand w) at k.committer.next Words s.homes (record {
+    drawn fits after own overs draws same_finishes same_list mine = turned right sizes s k (N + 1) x id (Hand h) (Hand w) at k.committer.next Words s.homes (record {
       word_count = length-set s.words 0 (N + 1);
       place_count = refl;
       more = omega (arith, last);
@@ -69,10 +76,13 @@ module _ {C : Type 0} (right : ℕ → C → Type 0) (sizes : Sizes) (s : State 
       own_after = own;
       overs = omega (arith, last);
       hands = refl;
+      drawn_step = draws;
+      finished_step = λ q. subst (λ (l : List ℕ). times q l + finishes_of (k.status q) ≡ times q h.finished + finishes_of (St q)) (sym same_list) (same_count right sizes s k (N + 1) x id (Hand h) (Hand w) at k.committer.next Words s.homes finishes_of same_finishes h.finished q);
+      own_step = mine;
     })
 
   abbrev Yes : HandView
-  Yes = record h { ticket = Held Drawn (N + 1) }
+  Yes = record h { ticket = Held Drawn (N + 1); drawn = (N + 1) ∷ h.drawn }
 
   abbrev No : HandView
   No = record h { is_over = true }
@@ -83,6 +93,9 @@ module _ {C : Type 0} (right : ℕ → C → Type 0) (sizes : Sizes) (s : State 
       (λ j g e. (cc, cc))
       (λ q g e. (cc, cc))
       (omega arith)
+      (more_count right sizes s k (N + 1) (held id Drawn) id (Hand h) (Hand Yes) at k.committer.next Words s.homes draws_of (ap draws_of is_undrawn) refl h.drawn)
+      (sym (ap finishes_of is_undrawn)) refl
+      (λ q. (let o = no_pages q in let t = times_more (N + 1) q h.drawn in omega arith))
 
   over : sizes.pages < N + 1 → Kept right sizes (record { words = Words; homes = s.homes; views = set s.views id (Hand No) })
   over past = drawn undrawn No
@@ -90,6 +103,9 @@ module _ {C : Type 0} (right : ℕ → C → Type 0) (sizes : Sizes) (s : State 
       (λ j g e. absurd (undrawn_held j g e))
       (λ q g e. absurd (no_ticket g q (sym free ∙ e)))
       (let none_yet : overs_of (Hand h) ≡ 0 = ap (λ (b : Bool). if b then 1 else 0) not_over in omega arith)
+      (same_count right sizes s k (N + 1) undrawn id (Hand h) (Hand No) at k.committer.next Words s.homes draws_of (sym (ap draws_of is_undrawn)) h.drawn)
+      (sym (ap finishes_of is_undrawn)) refl
+      (λ q. k.own id (Hand h) at q)
 
 -- the hand has the page after the last ticket, or has drawn that there is none
 pub draws : {C : Type 0} (right : ℕ → C → Type 0) (sizes : Sizes) (slots id : ℕ) (h : HandView) (c : List (ℕ × Option C)) → h.ticket ≡ Free → h.is_over ≡ false → h.sizes ≡ sizes
@@ -100,7 +116,7 @@ draws {C} right sizes slots id h c free not_over same s k wide at small =
     let whole : (n + 1) % 2 ^ 64 ≡ n + 1 = mod-eq_of_lt (omega arith) in
     let pages : h.sizes.pages ≡ sizes.pages = ap (λ (y : Sizes). y.pages) same in
     let Q : ℕ → Type 0 = λ m. (w : View) × (a : Act (Option C)) × Valid s.homes c a × Kept right sizes (stepped s 0 m id c w a) × Draws (step slots 0 1 0 none) (Hand h, c) n (w, carried_after c a) in
-    let yes' : HandView = record h { ticket = Held Drawn (n + 1) } in
+    let yes' : HandView = record h { ticket = Held Drawn (n + 1); drawn = (n + 1) ∷ h.drawn } in
     let no' : HandView = record h { is_over = true } in
     let cases : (b : Bool) → nat_le (n + 1) h.sizes.pages ≡ b → Q (n + 1) = elim [
       | true ↦ λ e. (Hand yes', keeps, tt, a_page right sizes s k id h at free not_over (let r : n + 1 ≤ h.sizes.pages = le_is _ _ e in omega arith), (low, ap (λ (b : Bool). (Hand (if b then yes' else no'), c)) (sym e)))

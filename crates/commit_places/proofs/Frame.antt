@@ -1,5 +1,5 @@
 -- One frame for each step that changes the status of one page and the view of one seat: all else stays.
-use Rattle.std.proofs.Common.{◌≡◌, ◌≢◌, ℕ, ◌+◌, ◌-◌, ◌<◌, ◌≤◌, ◌⊎◌, inl, inr, List, length, get_or, set, refl, sym, ap, ◌∙◌, subst, arith, ⊎_elim}
+use Rattle.std.proofs.Common.{◌≡◌, ◌≢◌, ℕ, ◌+◌, ◌-◌, ◌<◌, ◌≤◌, ◌⊎◌, inl, inr, List, length, get_or, set, refl, sym, ap, ◌∙◌, subst, arith, ⊎_elim, ◌∷◌}
 use Rattle.std.specs.Prelude.{Option}
 use mathlib.Core.Option.{some, none}
 use mathlib.Core.Option as maybe
@@ -14,8 +14,8 @@ use Rattle.commit_places.specs.declared.view.Next.{Next}
 use Rattle.commit_places.specs.declared.view.CommitterView.{CommitterView}
 use Rattle.commit_places.specs.declared.view.View.{View}
 use Rattle.commit_places.specs.declared.view.View.TheVariants.{Committer}
-use Rattle.commit_places.specs.Rule.{Status, undrawn, held, lying, taking, gone, lost, place_of, HasPlace, ticket_of, ticket_at, hands_of, overs_of, Fits, PlaceFits, NextFits, Kept}
-use Rattle.commit_places.proofs.Basics.{by_eq, put, put_here, put_else, sum_put, ticket_now, ticket_here, ticket_else}
+use Rattle.commit_places.specs.Rule.{Status, undrawn, held, lying, taking, gone, lost, place_of, HasPlace, ticket_of, ticket_at, hands_of, overs_of, drawn_by, finished_by, times, draws_of, finishes_of, pages_in, Fits, PlaceFits, NextFits, Kept}
+use Rattle.commit_places.proofs.Basics.{by_eq, times_here, times_else, put, put_here, put_else, sum_put, ticket_now, ticket_here, ticket_else}
 
 module _ {C : Type 0} (right : ℕ → C → Type 0) (sizes : Sizes) (s : State (Option C) View) (k : Kept right sizes s) where
   abbrev pub Slots : Type 0
@@ -63,6 +63,21 @@ module _ {C : Type 0} (right : ℕ → C → Type 0) (sizes : Sizes) (s : State 
       pub own_after : (q : ℕ) (g : Stage) → ticket_of w ≡ Held g q → (q ≡ p) × (x ≡ held id g)
       pub overs : overs_of w + (get_or s.words 0 0 - sizes.pages) ≡ overs_of v + (get_or ws 0 0 - sizes.pages)
       pub hands : hands_of w ≡ hands_of v
+      pub drawn_step : (q : ℕ) → times q (drawn_by w) + draws_of (k.status q) ≡ times q (drawn_by v) + draws_of (new q)
+      pub finished_step : (q : ℕ) → times q (finished_by w) + finishes_of (k.status q) ≡ times q (finished_by v) + finishes_of (new q)
+      pub own_step : (q : ℕ) → times q (finished_by w) + times q (pages_in (ticket_of w)) ≤ times q (drawn_by w)
+
+    -- a number that the new status has as the old one had
+    pub same_count : (f : Status → ℕ) → f x ≡ f (k.status p) → (l : List ℕ) (q : ℕ) → times q l + f (k.status q) ≡ times q l + f (new q)
+    same_count f same l q = ap (λ (n : ℕ). times q l + n) (by_eq q p (f (k.status q) ≡ f (new q))
+        (λ e. ap (λ (y : ℕ). f (k.status y)) e ∙ sym same ∙ sym (ap f new_here) ∙ ap (λ (y : ℕ). f (new y)) (sym e))
+        (λ ne. sym (ap f (new_else q ne))))
+
+    -- a number that is one more for the new status, and the page joins the list
+    pub more_count : (f : Status → ℕ) → f (k.status p) ≡ 0 → f x ≡ 1 → (l : List ℕ) (q : ℕ) → times q (p ∷ l) + f (k.status q) ≡ times q l + f (new q)
+    more_count f none_yet one l q = by_eq q p (times q (p ∷ l) + f (k.status q) ≡ times q l + f (new q))
+        (λ e. let a = times_here p q l (sym e) in let b : f (k.status q) ≡ 0 = ap (λ (y : ℕ). f (k.status y)) e ∙ none_yet in let c : f (new q) ≡ 1 = ap (λ (y : ℕ). f (new y)) e ∙ ap f new_here ∙ one in omega arith)
+        (λ ne. let a = times_else p q l (λ e. ne (sym e)) in let b = ap f (new_else q ne) in omega arith)
 
     module _ (t : Turn) where
       in_range : (q : ℕ) → (q ≤ get_or s.words 0 0) × (q ≤ sizes.pages) → (q ≤ get_or ws 0 0) × (q ≤ sizes.pages)
@@ -112,5 +127,8 @@ module _ {C : Type 0} (right : ℕ → C → Type 0) (sizes : Sizes) (s : State 
         ticket_is = ticket_is;
         overs = (let o = t.overs in let b = k.overs in omega (arith, overs));
         hands = (let h = t.hands in let b = k.hands in omega (arith, hands));
+        drawn_once = λ q some_page. (let a = sum_put (λ (u : View). times q (drawn_by u)) s.views id v w at in let b = k.drawn_once q some_page in let c = t.drawn_step q in omega arith);
+        finished_once = λ q some_page. (let a = sum_put (λ (u : View). times q (finished_by u)) s.views id v w at in let b = k.finished_once q some_page in let c = t.finished_step q in omega arith);
+        own = λ j u e q. ⊎_elim (λ l. subst (λ (y : View). times q (finished_by y) + times q (pages_in (ticket_of y)) ≤ times q (drawn_by y)) l.1 (t.own_step q)) (λ r. k.own j u r.1 q) (at_set s.views id j w u e);
         hands_fit = k.hands_fit;
       }

@@ -1,5 +1,5 @@
 -- The two steps of a finish keep the rule: the hand takes the place of its page, and gives it back with the piece.
-use Rattle.std.proofs.Common.{◌≡◌, ℕ, ◌+◌, ◌-◌, inl, inr, List, ◌∷◌, set, refl, sym, ap, ◌∙◌, subst, arith, mod-lt, ⊎_elim}
+use Rattle.std.proofs.Common.{◌≡◌, ℕ, ◌+◌, ◌-◌, inl, inr, List, ◌∷◌, set, refl, sym, ap, ◌∙◌, subst, arith, mod-lt, ⊎_elim, []}
 use Rattle.std.specs.Prelude.{Option, Some, None}
 use mathlib.Core.Option.{some, none}
 use mathlib.Core.Option as maybe
@@ -8,14 +8,15 @@ use Rattle.atomic_table.specs.Table.{State, step, takes, gives, Allows}
 use Rattle.commit_places.specs.declared.view.Sizes.{Sizes}
 use Rattle.commit_places.specs.declared.view.Stage.{Stage}
 use Rattle.commit_places.specs.declared.view.Stage.TheVariants.{Begun, Placing}
+use Rattle.commit_places.specs.declared.view.Ticket.{Ticket}
 use Rattle.commit_places.specs.declared.view.Ticket.TheVariants.{Free, Held}
 use Rattle.commit_places.specs.declared.view.HandView.{HandView}
 use Rattle.commit_places.specs.declared.view.View.{View}
 use Rattle.commit_places.specs.declared.view.View.TheVariants.{Hand}
-use Rattle.commit_places.specs.Rule.{Status, held, lying, mark, place_of, HasPlace, Kept}
+use Rattle.commit_places.specs.Rule.{Status, held, lying, mark, place_of, HasPlace, Kept, times, draws_of, finishes_of, pages_in}
 use Rattle.commit_places.specs.Steps.{page_of, Seizes, Lays}
-use Rattle.commit_places.proofs.Basics.{no_ticket, ticket_now, same_page}
-use Rattle.commit_places.proofs.Frame.{F, new_else}
+use Rattle.commit_places.proofs.Basics.{no_ticket, ticket_now, same_page, times_more}
+use Rattle.commit_places.proofs.Frame.{F, new_else, same_count, more_count}
 use Rattle.commit_places.proofs.Hands.{not_committer, first_stays, next_kept}
 use Rattle.commit_places.proofs.OnPlace.{reach, last_same, word_here, home_here, placed}
 
@@ -66,6 +67,10 @@ module _ {C : Type 0} (right : ℕ → C → Type 0) (sizes : Sizes) (s : State 
           own_after = λ q g e. (cc, cc);
           overs = refl;
           hands = refl;
+          draws = sym (ap draws_of is_begun);
+          drawn = refl;
+          finished_step = same_count right sizes s k p (held id Placing) id (Hand h) (Hand W) at k.committer.next (set s.words (I + 2) mark) (set s.homes I none) finishes_of (sym (ap finishes_of is_begun)) h.finished;
+          own_step = λ q. (let o = k.own id (Hand h) at q in let a : times q (pages_in h.ticket) ≡ times q (p ∷ []) = ap (λ (t : Ticket). times q (pages_in t)) begun in omega arith);
         })
 
   module _ (placing : h.ticket ≡ Held Placing p) (piece : C) (good : right p piece) where
@@ -76,7 +81,7 @@ module _ {C : Type 0} (right : ℕ → C → Type 0) (sizes : Sizes) (s : State 
     held_fits = mine Placing placing
 
     abbrev V : HandView
-    V = record h { ticket = Free }
+    V = record h { ticket = Free; finished = p ∷ h.finished }
 
     abbrev home : maybe.Option (Option C)
     home = some (Some piece)
@@ -100,6 +105,10 @@ module _ {C : Type 0} (right : ℕ → C → Type 0) (sizes : Sizes) (s : State 
           own_after = λ q g e. absurd (no_ticket g q e);
           overs = refl;
           hands = refl;
+          draws = sym (ap draws_of is_placing);
+          drawn = refl;
+          finished_step = more_count right sizes s k p lying id (Hand h) (Hand V) at k.committer.next (set s.words (I + 2) p) (set s.homes I home) finishes_of (ap finishes_of is_placing) refl h.finished;
+          own_step = λ q. (let o = k.own id (Hand h) at q in let a : times q (pages_in h.ticket) ≡ times q (p ∷ []) = ap (λ (t : Ticket). times q (pages_in t)) placing in let m = times_more p q h.finished in omega arith);
         })
 
 back : (i : ℕ) → i + 2 - 2 ≡ i
@@ -116,4 +125,4 @@ seizes right sizes slots id h c begun s k wide at small =
 pub lays : {C : Type 0} (right : ℕ → C → Type 0) (sizes : Sizes) (slots id : ℕ) (h : HandView) (c : List (ℕ × Option C)) (p : ℕ) (piece : C) → h.ticket ≡ Held Placing p → right p piece
     → Allows (Kept right sizes) slots id (Hand h, (place_of sizes.ahead p, Some piece) ∷ c) (place_of sizes.ahead p + 2) (λ _. p) (Lays (step slots (place_of sizes.ahead p + 2) p 0 none) (Hand h, (place_of sizes.ahead p, Some piece) ∷ c))
 lays right sizes slots id h c p piece placing good s k wide at small =
-    (Hand (record h { ticket = Free }), gives, tt, laid right sizes s k id h at p placing piece good, refl)
+    (Hand (record h { ticket = Free; finished = p ∷ h.finished }), gives, tt, laid right sizes s k id h at p placing piece good, ap (λ (n : ℕ). (Hand (record h { ticket = Free; finished = n ∷ h.finished }), c)) (sym (ap page_of placing)))

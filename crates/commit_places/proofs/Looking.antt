@@ -1,5 +1,5 @@
 -- A look at the count keeps the rule.
-use Rattle.std.proofs.Common.{◌≡◌, ◌≢◌, ℕ, ◌+◌, ◌<◌, ◌≤◌, inl, inr, List, get_or, set, Bool, true, false, nat_le, refl, sym, ap, ◌∙◌, subst, arith, ⊎_elim}
+use Rattle.std.proofs.Common.{◌≡◌, ◌≢◌, ℕ, ◌+◌, ◌<◌, ◌≤◌, inl, inr, List, get_or, set, Bool, true, false, nat_le, refl, sym, ap, ◌∙◌, subst, arith, ⊎_elim, [], ◌∷◌}
 use Rattle.std.specs.Prelude.{Option, if◌then◌else◌}
 use mathlib.Core.Option.{some, none}
 use lib.ListN.{get_elem?}
@@ -9,14 +9,15 @@ use Rattle.atomic_table.proofs.Lists.{set_again}
 use Rattle.commit_places.specs.declared.view.Sizes.{Sizes}
 use Rattle.commit_places.specs.declared.view.Stage.{Stage}
 use Rattle.commit_places.specs.declared.view.Stage.TheVariants.{Drawn, Begun}
+use Rattle.commit_places.specs.declared.view.Ticket.{Ticket}
 use Rattle.commit_places.specs.declared.view.Ticket.TheVariants.{Free, Held}
 use Rattle.commit_places.specs.declared.view.HandView.{HandView}
 use Rattle.commit_places.specs.declared.view.View.{View}
 use Rattle.commit_places.specs.declared.view.View.TheVariants.{Hand}
-use Rattle.commit_places.specs.Rule.{Status, held, lost, mark, HasPlace, overs_of, Kept}
+use Rattle.commit_places.specs.Rule.{Status, held, lost, mark, HasPlace, overs_of, times, draws_of, finishes_of, pages_in, Kept}
 use Rattle.commit_places.specs.Steps.{page_of, Looks}
 use Rattle.commit_places.proofs.Basics.{le_is, gt_is, no_ticket, ticket_now}
-use Rattle.commit_places.proofs.Frame.{F, new, new_else, turned}
+use Rattle.commit_places.proofs.Frame.{F, new, new_else, same_count, turned}
 use Rattle.commit_places.proofs.Hands.{not_committer, first_stays, next_kept}
 
 module _ {C : Type 0} (right : ℕ → C → Type 0) (sizes : Sizes) (s : State (Option C) View) (k : Kept right sizes s)
@@ -39,8 +40,10 @@ module _ {C : Type 0} (right : ℕ → C → Type 0) (sizes : Sizes) (s : State 
         → ((j : ℕ) (g : Stage) → x ≡ held j g → (j ≡ id) × (w.ticket ≡ Held g p))
         → ((q : ℕ) (g : Stage) → w.ticket ≡ Held g q → (q ≡ p) × (x ≡ held id g))
         → w.is_over ≡ h.is_over
+        → draws_of x ≡ 1 → finishes_of x ≡ 0 → (w.drawn ≡ h.drawn) × (w.finished ≡ h.finished)
+        → ((q : ℕ) → times q (pages_in w.ticket) ≤ times q (p ∷ []))
         → Kept right sizes (record { words = s.words; homes = s.homes; views = set s.views id (Hand w) })
-    looked fits after own over = turned right sizes s k p x id (Hand h) (Hand w) at k.committer.next s.words s.homes (record {
+    looked fits after own over draws finishes lists fewer = turned right sizes s k p x id (Hand h) (Hand w) at k.committer.next s.words s.homes (record {
       word_count = refl;
       place_count = refl;
       more = omega arith;
@@ -59,6 +62,9 @@ module _ {C : Type 0} (right : ℕ → C → Type 0) (sizes : Sizes) (s : State 
       own_after = own;
       overs = (let same : overs_of (Hand w) ≡ overs_of (Hand h) = ap (λ (b : Bool). if b then 1 else 0) over in omega arith);
       hands = refl;
+      drawn_step = λ q. subst (λ (l : List ℕ). times q l + draws_of (k.status q) ≡ times q h.drawn + draws_of (St q)) (sym lists.0) (same_count right sizes s k p x id (Hand h) (Hand w) at k.committer.next s.words s.homes draws_of (draws ∙ sym (ap draws_of is_mine)) h.drawn q);
+      finished_step = λ q. subst (λ (l : List ℕ). times q l + finishes_of (k.status q) ≡ times q h.finished + finishes_of (St q)) (sym lists.1) (same_count right sizes s k p x id (Hand h) (Hand w) at k.committer.next s.words s.homes finishes_of (finishes ∙ sym (ap finishes_of is_mine)) h.finished q);
+      own_step = λ q. (let o = k.own id (Hand h) at q in let a : times q (pages_in h.ticket) ≡ times q (p ∷ []) = ap (λ (t : Ticket). times q (pages_in t)) drawn in let b = fewer q in let c = ap (times q) lists.0 in let d = ap (times q) lists.1 in omega arith);
     })
 
   -- what word 1 says of the count
@@ -74,11 +80,11 @@ module _ {C : Type 0} (right : ℕ → C → Type 0) (sizes : Sizes) (s : State 
   runs false e m = word_of false e
 
   ends : mark ≤ get_or s.words 1 0 → Kept right sizes (record { words = s.words; homes = s.homes; views = set s.views id (Hand (record h { ticket = Free })) })
-  ends m = looked lost (record h { ticket = Free }) (mine.0, halted k.committer.is_stopped refl m) (λ j g e. absurd (cc)) (λ q g e. absurd (no_ticket g q e)) refl
+  ends m = looked lost (record h { ticket = Free }) (mine.0, halted k.committer.is_stopped refl m) (λ j g e. absurd (cc)) (λ q g e. absurd (no_ticket g q e)) refl refl refl (refl, refl) (λ q. omega arith)
 
   begins : get_or s.words 1 0 < mark → p ≤ get_or s.words 1 0 + sizes.ahead → Kept right sizes (record { words = s.words; homes = s.homes; views = set s.views id (Hand (record h { ticket = Held Begun p })) })
   begins m near = let c = runs k.committer.is_stopped refl m in
-      looked (held id Begun) (record h { ticket = Held Begun p }) (mine.0, (mine.1, omega arith)) (λ j g e. (cc, cc)) (λ q g e. (cc, cc)) refl
+      looked (held id Begun) (record h { ticket = Held Begun p }) (mine.0, (mine.1, omega arith)) (λ j g e. (cc, cc)) (λ q g e. (cc, cc)) refl refl refl (refl, refl) (λ q. omega arith)
 
 -- a page is begun only where it is in reach of the count
 pub looks : {C : Type 0} (right : ℕ → C → Type 0) (sizes : Sizes) (slots id : ℕ) (h : HandView) (c : List (ℕ × Option C)) → h.ticket ≡ Held Drawn (page_of h.ticket) → h.sizes ≡ sizes

@@ -14,9 +14,9 @@ use Rattle.commit_places.specs.declared.view.Next.{Next}
 use Rattle.commit_places.specs.declared.view.CommitterView.{CommitterView}
 use Rattle.commit_places.specs.declared.view.View.{View}
 use Rattle.commit_places.specs.declared.view.View.TheVariants.{Committer}
-use Rattle.commit_places.specs.Rule.{Status, undrawn, held, lying, taking, gone, lost, place_of, HasPlace, ticket_of, hands_of, overs_of, PlaceFits, NextFits, Kept}
+use Rattle.commit_places.specs.Rule.{Status, undrawn, held, lying, taking, gone, lost, place_of, HasPlace, ticket_of, hands_of, overs_of, drawn_by, finished_by, times, draws_of, finishes_of, pages_in, PlaceFits, NextFits, Kept}
 use Rattle.commit_places.proofs.Basics.{by_eq, same_page}
-use Rattle.commit_places.proofs.Frame.{F, Lead, new, new_here, new_else, turned}
+use Rattle.commit_places.proofs.Frame.{F, Lead, new, new_here, new_else, same_count, turned}
 
 module _ {C : Type 0} (right : ℕ → C → Type 0) (sizes : Sizes) (s : State (Option C) View) (k : Kept right sizes s) where
   -- a page that has a place is in reach
@@ -77,6 +77,10 @@ module _ {C : Type 0} (right : ℕ → C → Type 0) (sizes : Sizes) (s : State 
       pub own_after : (q : ℕ) (g : Stage) → ticket_of w ≡ Held g q → (q ≡ p) × (x ≡ held id g)
       pub overs : overs_of w ≡ overs_of v
       pub hands : hands_of w ≡ hands_of v
+      pub draws : draws_of x ≡ draws_of (k.status p)
+      pub drawn : drawn_by w ≡ drawn_by v
+      pub finished_step : (q : ℕ) → times q (finished_by w) + finishes_of (k.status q) ≡ times q (finished_by v) + finishes_of (St q)
+      pub own_step : (q : ℕ) → times q (finished_by w) + times q (pages_in (ticket_of w)) ≤ times q (drawn_by w)
 
     module _ (o : Own) where
       place_fits : (i : ℕ) → i < sizes.ahead → PlaceFits right sizes k.committer.count next k.committer.is_stopped Words Homes St i
@@ -106,4 +110,7 @@ module _ {C : Type 0} (right : ℕ → C → Type 0) (sizes : Sizes) (s : State 
         own_after = o.own_after;
         overs = (let e = o.overs in omega (arith, last_same));
         hands = o.hands;
+        drawn_step = λ q. subst (λ (l : List ℕ). times q l + draws_of (k.status q) ≡ times q (drawn_by v) + draws_of (St q)) (sym o.drawn) (same_count right sizes s k p x id v w at next Words Homes draws_of o.draws (drawn_by v) q);
+        finished_step = o.finished_step;
+        own_step = o.own_step;
       })

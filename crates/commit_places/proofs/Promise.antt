@@ -10,9 +10,9 @@ use Rattle.commit_places.specs.declared.view.Stage.TheVariants.{Drawn, Begun, Pl
 use Rattle.commit_places.specs.declared.view.HandView.{HandView}
 use Rattle.commit_places.specs.declared.view.View.{View}
 use Rattle.commit_places.specs.declared.view.View.TheVariants.{Committer, Hand, Joined}
-use Rattle.commit_places.specs.Rule.{Status, undrawn, held, lying, taking, gone, lost, overs_of, Kept}
+use Rattle.commit_places.specs.Rule.{Status, undrawn, held, lying, taking, gone, lost, overs_of, Kept, draws_of, finishes_of}
 use Rattle.commit_places.specs.Steps.{committer_of}
-use Rattle.commit_places.specs.Promise.{is_busy, busy_count, committed, Has, Lies}
+use Rattle.commit_places.specs.Promise.{is_busy, busy_count, committed, Has, Lies, DrawnOnce, FinishedOnce, FinishedByDrawer}
 use Rattle.commit_places.proofs.Basics.{got, sum_put}
 use Rattle.commit_places.proofs.Frame.{F}
 use Rattle.commit_places.proofs.Taking.{lies}
@@ -70,3 +70,28 @@ module _ {C : Type 0} (right : ℕ → C → Type 0) (sizes : Sizes) (s : State 
   pub over : (seat : ℕ) (hand : HandView) → get_elem? s.views seat ≡ some (Hand hand) → hand.is_over ≡ true → sizes.pages < get_or s.words 0 0
   over seat hand at yes' = let one : overs_of (Hand hand) ≡ 1 = ap (λ (b : Bool). if b then 1 else 0) yes' in let o = k.overs in
       omega (arith, sum_put overs_of s.views seat (Hand hand) Joined at)
+
+  draws_few : (x : Status) → draws_of x ≤ 1
+  draws_few undrawn = omega arith
+  draws_few (held seat stage) = omega arith
+  draws_few lying = omega arith
+  draws_few taking = omega arith
+  draws_few gone = omega arith
+  draws_few lost = omega arith
+
+  finishes_few : (x : Status) → finishes_of x ≤ 1
+  finishes_few undrawn = omega arith
+  finishes_few (held seat stage) = omega arith
+  finishes_few lying = omega arith
+  finishes_few taking = omega arith
+  finishes_few gone = omega arith
+  finishes_few lost = omega arith
+
+  pub drawn_once : DrawnOnce sizes s
+  drawn_once page some_page = let a = k.drawn_once page some_page in let b = draws_few (k.status page) in omega arith
+
+  pub finished_once : FinishedOnce sizes s
+  finished_once page some_page = let a = k.finished_once page some_page in let b = finishes_few (k.status page) in omega arith
+
+  pub by_drawer : FinishedByDrawer sizes s
+  by_drawer seat view at page = let o = k.own seat view at page in omega arith

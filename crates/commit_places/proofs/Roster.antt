@@ -1,7 +1,7 @@
 -- Hands are split and come back, and the rule at the start.
-use Rattle.std.proofs.Common.{◌≡◌, ◌≢◌, ℕ, suc, zero, ◌+◌, ◌^◌, ◌<◌, ◌≤◌, inl, List, [], ◌∷◌, ◌++◌, map, get_or, set, replicate, false, refl, sym, ap, ◌∙◌, subst, sum_by, arith, ⊎_elim}
+use Rattle.std.proofs.Common.{◌≡◌, ◌≢◌, ℕ, suc, zero, ◌+◌, ◌^◌, ◌<◌, ◌≤◌, inl, List, [], ◌∷◌, ◌++◌, map, get_or, set, replicate, false, refl, sym, ap, ◌∙◌, subst, sum_by, arith, ⊎_elim, ◌==◌}
 use Rattle.std.proofs.lemmas.List.{length-replicate, length-map}
-use Rattle.std.specs.Prelude.{Option, None}
+use Rattle.std.specs.Prelude.{Option, None, if◌then◌else◌}
 use mathlib.Core.Option.{some, none, some-injective}
 use mathlib.Core.Option as maybe
 use lib.ListN.{get_elem?}
@@ -15,10 +15,14 @@ use Rattle.commit_places.specs.declared.view.HandView.{HandView}
 use Rattle.commit_places.specs.declared.view.CommitterView.{CommitterView}
 use Rattle.commit_places.specs.declared.view.View.{View}
 use Rattle.commit_places.specs.declared.view.View.TheVariants.{Committer, Hand, Joined}
-use Rattle.commit_places.specs.Rule.{Status, undrawn, held, gone, ticket_of, ticket_at, hands_of, overs_of, Fits, Kept}
+use Rattle.commit_places.specs.Rule.{Status, undrawn, held, gone, ticket_of, ticket_at, hands_of, overs_of, Fits, Kept, times, drawn_by, finished_by, draws_of, finishes_of, pages_in}
 use Rattle.commit_places.specs.Steps.{first_committer, new_hand, committer_splitting, committer_joining}
 use Rattle.commit_places.proofs.Basics.{got, sum_put, tickets_stay, no_ticket}
 use Rattle.commit_places.proofs.Hands.{overs_few, not_committer}
+
+-- what a seat finished and has, it drew
+abbrev Own : ℕ → View → Type 0
+Own q u = times q (finished_by u) + times q (pages_in (ticket_of u)) ≤ times q (drawn_by u)
 
 -- a seat at the end that has no ticket changes no ticket
 tickets_snoc : (views : List View) (w : View) → ticket_of w ≡ Free → (j : ℕ) → ticket_at (views ++ w ∷ []) j ≡ ticket_at views j
@@ -29,15 +33,18 @@ tickets_snoc (v ∷ views) w free (suc j) = tickets_snoc views w free j
 
 module _ {C : Type 0} (right : ℕ → C → Type 0) (sizes : Sizes) (s : State (Option C) View) (k : Kept right sizes s) where
   -- the views change, and each ticket stays
-  views_change : (views : List View) (hands over other : ℕ)
-      → get_elem? views 0 ≡ some (Committer (record k.committer { hands = hands; joined_over = over; joined = other }))
+  views_change : (views : List View) (hands over other : ℕ) (ds fs : List ℕ)
+      → get_elem? views 0 ≡ some (Committer (record k.committer { hands = hands; joined_over = over; joined = other; drawn = ds; finished = fs }))
       → ((j : ℕ) (c : CommitterView) → get_elem? views j ≡ some (Committer c) → j ≡ 0)
       → ((j : ℕ) → ticket_at views j ≡ ticket_at s.views j)
       → sum_by overs_of views ≡ sum_by overs_of s.views → sum_by hands_of views ≡ hands → hands ≤ sizes.workers + 1
+      → ((q : ℕ) → sum_by (λ (u : View). times q (drawn_by u)) views ≡ sum_by (λ (u : View). times q (drawn_by u)) s.views)
+      → ((q : ℕ) → sum_by (λ (u : View). times q (finished_by u)) views ≡ sum_by (λ (u : View). times q (finished_by u)) s.views)
+      → ((j : ℕ) (u : View) → get_elem? views j ≡ some u → (q : ℕ) → times q (finished_by u) + times q (pages_in (ticket_of u)) ≤ times q (drawn_by u))
       → Kept right sizes (record { words = s.words; homes = s.homes; views = views })
-  views_change views hands over other first only same overs counted few = record {
+  views_change views hands over other ds fs first only same overs counted few drawn finished own = record {
     status = k.status;
-    committer = record k.committer { hands = hands; joined_over = over; joined = other };
+    committer = record k.committer { hands = hands; joined_over = over; joined = other; drawn = ds; finished = fs };
     some_place = k.some_place;
     small = k.small;
     word_count = k.word_count;
@@ -54,6 +61,9 @@ module _ {C : Type 0} (right : ℕ → C → Type 0) (sizes : Sizes) (s : State 
     overs = overs ∙ k.overs;
     hands = counted;
     hands_fit = few;
+    drawn_once = λ q some_page. drawn q ∙ k.drawn_once q some_page;
+    finished_once = λ q some_page. finished q ∙ k.finished_once q some_page;
+    own = own;
   }
 
   -- the committer's seat is the first, and has its view
@@ -71,13 +81,16 @@ module _ {C : Type 0} (right : ℕ → C → Type 0) (sizes : Sizes) (s : State 
       let n : View = Hand (new_hand b.sizes) in
       let there = got s.views 0 v Joined at in
       let first = at_longer (set s.views 0 w) (n ∷ []) 0 w (set_here s.views 0 w there.0) in
-      views_change (set s.views 0 w ++ n ∷ []) (b.hands + 1) b.joined_over b.joined
-      (first ∙ ap (λ (x : CommitterView). some (Committer (record x { hands = b.hands + 1; joined_over = b.joined_over; joined = b.joined }))) (sym is))
+      views_change (set s.views 0 w ++ n ∷ []) (b.hands + 1) b.joined_over b.joined b.drawn b.finished
+      (first ∙ ap (λ (x : CommitterView). some (Committer (record x { hands = b.hands + 1; joined_over = b.joined_over; joined = b.joined; drawn = b.drawn; finished = b.finished }))) (sym is))
       (λ j c e. ⊎_elim (λ l. ⊎_elim (λ y. y.0) (λ y. k.only_seat j c y.1) (at_set s.views 0 j w (Committer c) l)) (λ r. absurd (not_committer (new_hand b.sizes) c r)) (at_snoc (set s.views 0 w) n (Committer c) j e))
       (λ j. tickets_snoc (set s.views 0 w) n refl j ∙ tickets_stay s.views 0 v w at refl j)
       (omega (arith, sum_by-append overs_of (set s.views 0 w) (n ∷ []), sum_by-cons overs_of n [], sum_put overs_of s.views 0 v w at))
       (let h = k.hands in let e = ap (λ (x : CommitterView). x.hands) is in omega (arith, sum_by-append hands_of (set s.views 0 w) (n ∷ []), sum_by-cons hands_of n [], sum_put hands_of s.views 0 v w at))
       (omega arith)
+      (λ q. omega (arith, sum_by-append (λ (u : View). times q (drawn_by u)) (set s.views 0 w) (n ∷ []), sum_by-cons (λ (u : View). times q (drawn_by u)) n [], sum_put (λ (u : View). times q (drawn_by u)) s.views 0 v w at))
+      (λ q. omega (arith, sum_by-append (λ (u : View). times q (finished_by u)) (set s.views 0 w) (n ∷ []), sum_by-cons (λ (u : View). times q (finished_by u)) n [], sum_put (λ (u : View). times q (finished_by u)) s.views 0 v w at))
+      (λ j u e q. ⊎_elim (λ l. ⊎_elim (λ y. subst (Own q) y.1 (k.own 0 v at q)) (λ y. k.own j u y.1 q) (at_set s.views 0 j w u l)) (λ r. subst (Own q) r (omega arith)) (at_snoc (set s.views 0 w) n u j e))
 
   join_at : (b : CommitterView) (other : ℕ) (h : HandView) → k.committer ≡ b → get_elem? s.views 0 ≡ some (Committer b) → h.ticket ≡ Free → other ≢ 0
       → get_elem? (set s.views 0 (Committer (committer_joining (Hand h) b))) other ≡ some (Hand h)
@@ -89,13 +102,18 @@ module _ {C : Type 0} (right : ℕ → C → Type 0) (sizes : Sizes) (s : State 
       let at0 = got s.views 0 v Joined at in
       let views = set s.views 0 w in
       let few = overs_few (Hand h) in
-      views_change (set views other Joined) b.hands both.joined_over both.joined
-      (set_else views other 0 Joined (λ e. apart (sym e)) ∙ set_here s.views 0 w at0.0 ∙ ap (λ (x : CommitterView). some (Committer (record x { hands = b.hands; joined_over = both.joined_over; joined = both.joined }))) (sym is))
+      views_change (set views other Joined) b.hands both.joined_over both.joined both.drawn both.finished
+      (set_else views other 0 Joined (λ e. apart (sym e)) ∙ set_here s.views 0 w at0.0 ∙ ap (λ (x : CommitterView). some (Committer (record x { hands = b.hands; joined_over = both.joined_over; joined = both.joined; drawn = both.drawn; finished = both.finished }))) (sym is))
       (λ j c e. ⊎_elim (λ l. absurd (joined_committer c l.1)) (λ r. ⊎_elim (λ y. y.0) (λ y. k.only_seat j c y.1) (at_set s.views 0 j w (Committer c) r.1)) (at_set views other j Joined (Committer c) e))
       (λ j. tickets_stay views other (Hand h) Joined there (sym free) j ∙ tickets_stay s.views 0 v w at refl j)
       (omega (arith, sum_put overs_of views other (Hand h) Joined there, sum_put overs_of s.views 0 v w at))
       (let l = k.hands in let e = ap (λ (x : CommitterView). x.hands) is in omega (arith, sum_put hands_of views other (Hand h) Joined there, sum_put hands_of s.views 0 v w at))
       (let e = ap (λ (x : CommitterView). x.hands) is in let f = k.hands_fit in omega arith)
+      (λ q. omega (arith, sum_put (λ (u : View). times q (drawn_by u)) views other (Hand h) Joined there, sum_put (λ (u : View). times q (drawn_by u)) s.views 0 v w at, sum_by-append (λ (p : ℕ). if (p == q) then 1 else 0) h.drawn b.drawn))
+      (λ q. omega (arith, sum_put (λ (u : View). times q (finished_by u)) views other (Hand h) Joined there, sum_put (λ (u : View). times q (finished_by u)) s.views 0 v w at, sum_by-append (λ (p : ℕ). if (p == q) then 1 else 0) h.finished b.finished))
+      (λ j u e q. ⊎_elim (λ l. subst (Own q) l.1 (omega arith))
+      (λ r. ⊎_elim (λ y. subst (Own q) y.1 (let mine = k.own 0 v at q in let its = k.own other (Hand h) (sym (set_else s.views 0 other w apart) ∙ there) q in omega (arith, sum_by-append (λ (p : ℕ). if (p == q) then 1 else 0) h.drawn b.drawn, sum_by-append (λ (p : ℕ). if (p == q) then 1 else 0) h.finished b.finished)))
+      (λ y. k.own j u y.1 q) (at_set s.views 0 j w u r.1)) (at_set views other j Joined u e))
     where
       joined_committer : (c : CommitterView) → Joined ≡ Committer c → ⊥
       joined_committer c e = cc
@@ -152,6 +170,9 @@ opens {C} right sizes some_place small = record {
   overs = omega (arith, zeros (sizes.ahead + 2) 0);
   hands = refl;
   hands_fit = omega arith;
+  drawn_once = none_drawn;
+  finished_once = none_finished;
+  own = own;
 }
   where
     views : List View
@@ -172,3 +193,15 @@ opens {C} right sizes some_place small = record {
     none_at : (j : ℕ) → ticket_at views j ≡ Free
     none_at zero = refl
     none_at (suc j) = refl
+
+    none_drawn : (q : ℕ) → 0 < q → sum_by (λ (u : View). times q (drawn_by u)) views ≡ draws_of (first_status q)
+    none_drawn zero pos = absurd (omega arith)
+    none_drawn (suc q) pos = refl
+
+    none_finished : (q : ℕ) → 0 < q → sum_by (λ (u : View). times q (finished_by u)) views ≡ finishes_of (first_status q)
+    none_finished zero pos = absurd (omega arith)
+    none_finished (suc q) pos = refl
+
+    own : (j : ℕ) (u : View) → get_elem? views j ≡ some u → (q : ℕ) → Own q u
+    own zero u e q = subst (Own q) (some-injective (Committer (first_committer sizes)) u e) (omega arith)
+    own (suc j) u e q = absurd (maybe.some-ne-none u (sym e))

@@ -14,10 +14,10 @@ use Rattle.commit_places.specs.declared.view.Next.TheVariants as nexts
 use Rattle.commit_places.specs.declared.view.CommitterView.{CommitterView}
 use Rattle.commit_places.specs.declared.view.View.{View}
 use Rattle.commit_places.specs.declared.view.View.TheVariants.{Committer, Joined}
-use Rattle.commit_places.specs.Rule.{Status, undrawn, held, lying, taking, gone, lost, mark, place_of, HasPlace, NextFits, Kept}
+use Rattle.commit_places.specs.Rule.{Status, undrawn, held, lying, taking, gone, lost, mark, place_of, HasPlace, NextFits, Kept, draws_of, finishes_of}
 use Rattle.commit_places.specs.Steps.{Takes, Clears}
 use Rattle.commit_places.proofs.Basics.{no_ticket, got}
-use Rattle.commit_places.proofs.Frame.{F, new, new_here}
+use Rattle.commit_places.proofs.Frame.{F, new, new_here, same_count}
 use Rattle.commit_places.proofs.Roster.{committer_is}
 use Rattle.commit_places.proofs.OnPlace.{last_same, word_here, home_here, placed}
 
@@ -91,6 +91,10 @@ module _ {C : Type 0} (right : ℕ → C → Type 0) (sizes : Sizes) (s : State 
           own_after = λ q g e. absurd (no_ticket g q e);
           overs = refl;
           hands = refl;
+          draws = sym (ap draws_of lay);
+          drawn = refl;
+          finished_step = same_count right sizes s k p taking 0 (Committer b) w at nexts.Taking (set s.words (I + 2) mark) (set s.homes I none) finishes_of (sym (ap finishes_of lay)) b.finished;
+          own_step = λ q. k.own 0 (Committer b) at q;
         })
 
     cleared : (b : CommitterView) → k.committer ≡ b → get_elem? s.views 0 ≡ some (Committer b) → b.next ≡ nexts.Taking
@@ -112,6 +116,10 @@ module _ {C : Type 0} (right : ℕ → C → Type 0) (sizes : Sizes) (s : State 
           own_after = λ q g e. absurd (no_ticket g q e);
           overs = refl;
           hands = refl;
+          draws = sym (ap draws_of lay);
+          drawn = refl;
+          finished_step = same_count right sizes s k p gone 0 (Committer b) w at nexts.Taken (set s.words (I + 2) 0) (set s.homes I (some None)) finishes_of (sym (ap finishes_of lay)) b.finished;
+          own_step = λ q. k.own 0 (Committer b) at q;
         })
 
 back : (i : ℕ) → i + 2 - 2 ≡ i

@@ -1,5 +1,5 @@
 -- Words for what the places promise.
-use Rattle.std.specs.Prelude.{◌≡◌, ◌≢◌, ℕ, zero, suc, ◌+◌, ◌<◌, ◌≤◌, Bool, true, false, if◌then◌else◌, Option, Some, slice_index_or}
+use Rattle.std.specs.Prelude.{◌≡◌, ◌≢◌, ℕ, zero, suc, ◌+◌, ◌<◌, ◌≤◌, Bool, true, false, if◌then◌else◌, sum_by, Option, Some, slice_index_or}
 use mathlib.Core.Option.{some}
 use lib.ListN.{get_elem?}
 use Rattle.atomic_table.specs.Table.{State}
@@ -10,7 +10,7 @@ use Rattle.commit_places.specs.declared.view.HandView.{HandView}
 use Rattle.commit_places.specs.declared.view.Sizes.{Sizes}
 use Rattle.commit_places.specs.declared.view.View.{View}
 use Rattle.commit_places.specs.declared.view.View.TheVariants.{Hand, Joined}
-use Rattle.commit_places.specs.Rule.{Status, undrawn, held, lying, taking, gone, lost, place_of, ticket_at}
+use Rattle.commit_places.specs.Rule.{Status, undrawn, held, lying, taking, gone, lost, place_of, ticket_at, times, drawn_by, finished_by}
 use Rattle.commit_places.specs.Steps.{committer_of}
 
 -- whether a page is begun, or its piece lies in its place or is being taken from it
@@ -28,6 +28,10 @@ is_busy lost = false
 abbrev pub busy_count : (ℕ → Status) → ℕ → ℕ
 busy_count status zero = 0
 busy_count status (suc n) = busy_count status n + (if (is_busy (status (suc n))) then 1 else 0)
+
+-- no more than may be are
+abbrev pub FewBusy : Sizes → (ℕ → Status) → Type 0
+FewBusy sizes status = busy_count status sizes.pages ≤ sizes.ahead
 
 module _ {C : Type 0} (sizes : Sizes) (s : State (Option C) View) where
   -- how many pages are committed
@@ -62,3 +66,15 @@ module _ {C : Type 0} (sizes : Sizes) (s : State (Option C) View) where
   -- where a hand drew that all pages are drawn, they are: the last ticket is above the pages
   abbrev pub OverIsOver : Type 0
   OverIsOver = (seat : ℕ) (hand : HandView) → get_elem? s.views seat ≡ some (Hand hand) → hand.is_over ≡ true → sizes.pages < slice_index_or s.words 0 0
+
+  -- no page was drawn twice, whoever drew it: it stands once at most in all lists of pages drawn
+  abbrev pub DrawnOnce : Type 0
+  DrawnOnce = (page : ℕ) → 0 < page → sum_by (λ (view : View). times page (drawn_by view)) s.views ≤ 1
+
+  -- no page's piece was laid down twice
+  abbrev pub FinishedOnce : Type 0
+  FinishedOnce = (page : ℕ) → 0 < page → sum_by (λ (view : View). times page (finished_by view)) s.views ≤ 1
+
+  -- a seat stands for pages finished only that it stands for as drawn
+  abbrev pub FinishedByDrawer : Type 0
+  FinishedByDrawer = (seat : ℕ) (view : View) → get_elem? s.views seat ≡ some view → (page : ℕ) → times page (finished_by view) ≤ times page (drawn_by view)

@@ -2,7 +2,7 @@
 -- Word 0 is the last ticket, which is the last number drawn. Word 1 is the count of committed pages, or 2 ^ 32 where the work is stopped.
 -- Page p belongs to the place (p - 1) % ahead. Place i has the word i + 2: 0 where it is empty, a page's number where that page's piece
 -- lies there, and 2 ^ 32 while a seat holds it. Its slot has the piece.
-use Rattle.std.specs.Prelude.{◌≡◌, ℕ, ◌+◌, ◌-◌, ◌%◌, ◌^◌, ◌<◌, ◌≤◌, ◌⊎◌, ⊤, Bool, true, if◌then◌else◌, List, length, sum_by, Option, Some, None, slice_index_or}
+use Rattle.std.specs.Prelude.{◌≡◌, ℕ, ◌+◌, ◌-◌, ◌%◌, ◌^◌, ◌<◌, ◌≤◌, ◌⊎◌, ⊤, Bool, true, if◌then◌else◌, List, [], ◌∷◌, ◌==◌, length, sum_by, Option, Some, None, slice_index_or}
 use mathlib.Core.Option.{some}
 use mathlib.Core.Option as maybe
 use lib.ListN.{get_elem?}
@@ -67,6 +67,44 @@ overs_of (Committer view) = view.joined_over
 overs_of (Hand view) = if view.is_over then 1 else 0
 overs_of Joined = 0
 
+-- all pages that the hands drew for which this seat stands
+abbrev pub drawn_by : View → List ℕ
+drawn_by (Committer view) = view.drawn
+drawn_by (Hand view) = view.drawn
+drawn_by Joined = []
+
+-- all pages whose pieces they laid down
+abbrev pub finished_by : View → List ℕ
+finished_by (Committer view) = view.finished
+finished_by (Hand view) = view.finished
+finished_by Joined = []
+
+-- how often the page stands in the list
+abbrev pub times : ℕ → List ℕ → ℕ
+times page pages = sum_by (λ (p : ℕ). if (p == page) then 1 else 0) pages
+
+-- how often a page with this status was drawn
+abbrev pub draws_of : Status → ℕ
+draws_of undrawn = 0
+draws_of (held seat stage) = 1
+draws_of lying = 1
+draws_of taking = 1
+draws_of gone = 1
+draws_of lost = 1
+
+-- how often its piece was laid down
+abbrev pub finishes_of : Status → ℕ
+finishes_of undrawn = 0
+finishes_of (held seat stage) = 0
+finishes_of lying = 1
+finishes_of taking = 1
+finishes_of gone = 1
+finishes_of lost = 0
+
+abbrev pub pages_in : Ticket → List ℕ
+pages_in Free = []
+pages_in (Held stage page) = page ∷ []
+
 module _ {C : Type 0} (right : ℕ → C → Type 0) (sizes : Sizes) (count : ℕ) (next : Next) (stopped : Bool) (words : List ℕ) (homes : List (maybe.Option (Option C))) where
   abbrev pub InRange : ℕ → Type 0
   InRange page = (page ≤ slice_index_or words 0 0) × (page ≤ sizes.pages)
@@ -121,4 +159,7 @@ pub record Kept {C : Type 0} (right : ℕ → C → Type 0) (sizes : Sizes) (s :
   pub ticket_is : (page seat : ℕ) (stage : Stage) → ticket_at s.views seat ≡ Held stage page → status page ≡ held seat stage
   pub overs : sum_by overs_of s.views ≡ slice_index_or s.words 0 0 - sizes.pages
   pub hands : sum_by hands_of s.views ≡ committer.hands
+  pub drawn_once : (page : ℕ) → 0 < page → sum_by (λ (view : View). times page (drawn_by view)) s.views ≡ draws_of (status page)
+  pub finished_once : (page : ℕ) → 0 < page → sum_by (λ (view : View). times page (finished_by view)) s.views ≡ finishes_of (status page)
+  pub own : (seat : ℕ) (view : View) → get_elem? s.views seat ≡ some view → (page : ℕ) → times page (finished_by view) + times page (pages_in (ticket_of view)) ≤ times page (drawn_by view)
   pub hands_fit : committer.hands ≤ sizes.workers + 1

@@ -1,6 +1,9 @@
 -- What callers see of places, of hands and of the committer, and what the calls answer.
-use Rattle.std.specs.Prelude.{◌≡◌, ℕ, ◌+◌, ◌<◌, ◌≤◌, Bool, true, false, nat_le, if◌then◌else◌}
+use Rattle.std.specs.Prelude.{◌≡◌, ℕ, ◌+◌, ◌<◌, ◌≤◌, Bool, List, [], ◌∷◌, ◌++◌, true, false, nat_le, if◌then◌else◌, Option}
+use Rattle.atomic_table.specs.Table.{Me}
 use Rattle.atomic_table.specs.Seated.{TableId}
+use Rattle.commit_places.specs.declared.view.View.{View}
+use Rattle.commit_places.specs.declared.view.View.TheVariants.{Hand}
 use Rattle.commit_places.specs.declared.view.Sizes.{Sizes}
 use Rattle.commit_places.specs.declared.view.Stage.TheVariants.{Drawn, Begun}
 use Rattle.commit_places.specs.declared.view.Ticket.{Ticket}
@@ -14,7 +17,7 @@ use Rattle.commit_places.specs.declared.answer.Draw.TheVariants.{Page, Over}
 use Rattle.commit_places.specs.declared.answer.Ready.{Ready}
 use Rattle.commit_places.specs.declared.answer.Ready.TheVariants.{Go, Later, Stopped}
 use Rattle.commit_places.specs.Rule.{mark}
-use Rattle.commit_places.specs.Steps.{page_of}
+use Rattle.commit_places.specs.Steps.{page_of, hand_of}
 
 -- which places, and their sizes
 pub record PlacesId : Type 0 where
@@ -28,35 +31,44 @@ sizes_with pages ahead workers = record { pages = pages; ahead = ahead; workers 
 abbrev pub IsTableOf : Sizes → Sizes → TableId → Type 0
 IsTableOf sizes key table = (key ≡ sizes) × (table.words ≡ sizes.ahead + 2) × (table.slots ≡ sizes.ahead) × (0 < sizes.ahead)
 
--- a hand: its places, the page that it drew and hasn't finished, and whether it drew that all are drawn
+-- a hand: its places, the page that it drew and hasn't finished, whether it drew that all are drawn, and all pages that it drew and finished
 pub record HandState : Type 0 where
   pub places : PlacesId
   pub ticket : Ticket
   pub is_over : Bool
+  pub drawn : List ℕ
+  pub finished : List ℕ
 
--- the committer: its places, the count of committed pages, whether the next one is taken, whether the work is stopped, and how many hands there ever were
+-- the committer: its places, the count of committed pages, whether the next one is taken, whether the work is stopped, how many hands there ever were,
+-- and all pages that the hands drew and finished that came back
 pub record CommitterState : Type 0 where
   pub places : PlacesId
   pub count : ℕ
   pub next : Next
   pub is_stopped : Bool
   pub hands : ℕ
+  pub drawn : List ℕ
+  pub finished : List ℕ
+
+-- the seat is that of a hand which holds no slot, and whose page is this
+abbrev pub IsHandWith : {C : Type 0} → Me (Option C) View → ℕ → Type 0
+IsHandWith me page = (me ≡ (Hand (hand_of me.0), [])) × (page ≡ page_of (hand_of me.0).ticket)
 
 -- what callers see of a hand and of the committer that know this
 abbrev pub hand_state : TableId → HandView → HandState
-hand_state table view = record { places = record { table = table; sizes = view.sizes }; ticket = view.ticket; is_over = view.is_over }
+hand_state table view = record { places = record { table = table; sizes = view.sizes }; ticket = view.ticket; is_over = view.is_over; drawn = view.drawn; finished = view.finished }
 
 abbrev pub committer_state : TableId → CommitterView → CommitterState
 committer_state table view =
-    record { places = record { table = table; sizes = view.sizes }; count = view.count; next = view.next; is_stopped = view.is_stopped; hands = view.hands }
+    record { places = record { table = table; sizes = view.sizes }; count = view.count; next = view.next; is_stopped = view.is_stopped; hands = view.hands; drawn = view.drawn; finished = view.finished }
 
 -- a hand that was just split
 abbrev pub new_hand_state : PlacesId → HandState
-new_hand_state places = record { places = places; ticket = Free; is_over = false }
+new_hand_state places = record { places = places; ticket = Free; is_over = false; drawn = []; finished = [] }
 
 -- the committer of new places, which has split its own hand
 abbrev pub first_state : PlacesId → CommitterState
-first_state places = record { places = places; count = 0; next = Waiting; is_stopped = false; hands = 1 }
+first_state places = record { places = places; count = 0; next = Waiting; is_stopped = false; hands = 1; drawn = []; finished = [] }
 
 -- the hand may draw: it has no page, and hasn't drawn that all are drawn
 abbrev pub MayDraw : HandState → Type 0
@@ -76,7 +88,7 @@ draw_answer pages last = if (nat_le (last + 1) pages) then (Page (last + 1)) els
 
 -- the hand after this answer
 abbrev pub after_draw : HandState → Draw → HandState
-after_draw hand (Page page) = record hand { ticket = Held Drawn page }
+after_draw hand (Page page) = record hand { ticket = Held Drawn page; drawn = page ∷ hand.drawn }
 after_draw hand Over = record hand { is_over = true }
 
 -- the answer to a look that found this in word 1: stopped exactly at the stop value, and else go exactly where the page is near enough
@@ -101,3 +113,11 @@ MayCommit by page = (page ≡ by.count + 1) × (by.next ≡ Taken) × (by.is_sto
 -- the committer after it looked for the next page's piece
 abbrev pub after_take : CommitterState → Bool → CommitterState
 after_take by found = if found then (record by { next = Taken }) else by
+
+-- the hand after its piece was laid down
+abbrev pub after_finish : HandState → HandState
+after_finish hand = record hand { ticket = Free; finished = page_of hand.ticket ∷ hand.finished }
+
+-- the committer after the hand came back
+abbrev pub after_join : CommitterState → HandState → CommitterState
+after_join by hand = record by { drawn = hand.drawn ++ by.drawn; finished = hand.finished ++ by.finished }

@@ -1,5 +1,5 @@
 -- What each step makes of a seat's view, and what it tells.
-use Rattle.std.specs.Prelude.{◌≡◌, ℕ, ◌+◌, ◌-◌, ◌^◌, ◌<◌, ◌==◌, true, false, nat_le, if◌then◌else◌, ◌∷◌, Option, Some, None, MatchBool}
+use Rattle.std.specs.Prelude.{◌≡◌, ℕ, ◌+◌, ◌-◌, ◌^◌, ◌<◌, ◌==◌, true, false, nat_le, if◌then◌else◌, ◌∷◌, ◌++◌, Option, Some, None, MatchBool, []}
 use Rattle.atomic_table.specs.Table.{Me, Step, rest}
 use Rattle.commit_places.specs.declared.view.Sizes.{Sizes}
 use Rattle.commit_places.specs.declared.view.Stage.TheVariants.{Drawn, Begun, Placing}
@@ -10,7 +10,7 @@ use Rattle.commit_places.specs.declared.view.HandView.{HandView}
 use Rattle.commit_places.specs.declared.view.CommitterView.{CommitterView}
 use Rattle.commit_places.specs.declared.view.View.{View}
 use Rattle.commit_places.specs.declared.view.View.TheVariants.{Committer, Hand, Joined}
-use Rattle.commit_places.specs.Rule.{mark, hands_of, overs_of}
+use Rattle.commit_places.specs.Rule.{mark, hands_of, overs_of, drawn_by, finished_by}
 
 -- the page of a ticket
 abbrev pub page_of : Ticket → ℕ
@@ -21,14 +21,14 @@ abbrev pub no_sizes : Sizes
 no_sizes = record { pages = 0; ahead = 0; workers = 0 }
 
 abbrev pub first_committer : Sizes → CommitterView
-first_committer sizes = record { sizes = sizes; count = 0; next = Waiting; is_stopped = false; hands = 0; joined_over = 0; joined = 0 }
+first_committer sizes = record { sizes = sizes; count = 0; next = Waiting; is_stopped = false; hands = 0; joined_over = 0; joined = 0; drawn = []; finished = [] }
 
 abbrev pub new_hand : Sizes → HandView
-new_hand sizes = record { sizes = sizes; ticket = Free; is_over = false }
+new_hand sizes = record { sizes = sizes; ticket = Free; is_over = false; drawn = []; finished = [] }
 
 -- a hand that found this last ticket drew the next page, or that all are drawn
 abbrev pub hand_drawing : HandView → ℕ → HandView
-hand_drawing hand last = if (nat_le (last + 1) hand.sizes.pages) then (record hand { ticket = Held Drawn (last + 1) }) else (record hand { is_over = true })
+hand_drawing hand last = if (nat_le (last + 1) hand.sizes.pages) then (record hand { ticket = Held Drawn (last + 1); drawn = (last + 1) ∷ hand.drawn }) else (record hand { is_over = true })
 
 -- a hand that found this count loses its page where the work is stopped, begins it where it is near enough, and else waits
 abbrev pub hand_looking : HandView → ℕ → HandView
@@ -40,7 +40,7 @@ abbrev pub hand_placing : HandView → HandView
 hand_placing hand = record hand { ticket = Held Placing (page_of hand.ticket) }
 
 abbrev pub hand_finished : HandView → HandView
-hand_finished hand = record hand { ticket = Free }
+hand_finished hand = record hand { ticket = Free; finished = page_of hand.ticket ∷ hand.finished }
 
 abbrev pub on_hand : (HandView → HandView) → View → View
 on_hand change (Committer view) = Committer view
@@ -74,7 +74,13 @@ sizes_of Joined = no_sizes
 
 -- a hand comes back to the committer, which stands for it from then on
 abbrev pub committer_joining : View → CommitterView → CommitterView
-committer_joining hand view = record view { joined_over = view.joined_over + overs_of hand; joined = view.joined + (hands_of hand - overs_of hand) }
+committer_joining hand view =
+    record view {
+      joined_over = view.joined_over + overs_of hand;
+      joined = view.joined + (hands_of hand - overs_of hand);
+      drawn = drawn_by hand ++ view.drawn;
+      finished = finished_by hand ++ view.finished;
+    }
 
 module _ {C : Type 0} where
   abbrev pub Draws : Step (Option C) → Me (Option C) View → ℕ → Me (Option C) View → Type 0

@@ -1,6 +1,6 @@
 //! The places, and the seats of those that share them.
 ghost use Rattle.std.specs.Prelude.{◌≡◌, ℕ, ◌+◌, ◌*◌, ◌^◌, ◌<◌, ◌≤◌, ◌==◌, true, is_some, IfOk, IfSome};
-ghost use Rattle.commit_places.specs.Seats.{sizes_with, new_hand_state, first_state, MayDraw, HasDrawn, HasBegun, MayTake, MayCommit, draw_answer, after_draw, ready_answer, after_ready, after_take};
+ghost use Rattle.commit_places.specs.Seats.{sizes_with, new_hand_state, first_state, MayDraw, HasDrawn, HasBegun, MayTake, MayCommit, draw_answer, after_draw, ready_answer, after_ready, after_take, after_finish, after_join};
 ghost use Rattle.commit_places.specs.Rule.{place_of};
 ghost use Rattle.commit_places.specs.Steps.{page_of};
 ghost use Rattle.commit_places.specs.declared.view.Ticket.TheVariants.{Free};
@@ -44,16 +44,14 @@ pub struct Hand<C> {
 }
 
 impl<C> Model for Hand<C> {
-    ghost use Rattle.std.specs.Prelude.{◌≡◌, []};
-    ghost use Rattle.commit_places.specs.Seats.{HandState, hand_state};
-    ghost use Rattle.commit_places.specs.Steps.{hand_of, page_of};
-    ghost use Rattle.commit_places.specs.declared.view.View.TheVariants.{Hand as a_hand};
+    ghost use Rattle.commit_places.specs.Seats.{HandState, hand_state, IsHandWith};
+    ghost use Rattle.commit_places.specs.Steps.{hand_of};
 
     ghost Value = { HandState };
 
     ghost view = { λ h. hand_state h.seat.table_id (hand_of h.seat.me.0) };
 
-    ghost invariant = { λ h. (h.seat.me ≡ (a_hand (hand_of h.seat.me.0), [])) × (h.page ≡ page_of (hand_of h.seat.me.0).ticket) };
+    ghost invariant = { λ h. IsHandWith h.seat.me h.page };
 }
 
 /// The seat of the one that takes the pieces in order and tells how many pages are committed. Contracts see its state.
@@ -120,7 +118,7 @@ impl<T: PieceSpec> Places<T> {
     pub fn join(&self, by: &mut Committer<T::Piece>, hand: Hand<T::Piece>)
         requires places { (by.old.places ≡ self.now) × (hand.places ≡ self.now) }
         requires free { hand.ticket ≡ Free }
-        ensures { by.new ≡ by.old }
+        ensures { by.new ≡ after_join by.old hand }
     {
         let Hand { seat, page: _ } = hand;
         self.table.shared.join_seat::<Joining>(&mut by.seat, seat);
@@ -167,7 +165,7 @@ impl<T: PieceSpec> Places<T> {
         requires places { hand.old.places ≡ self.now }
         requires begun { HasBegun hand.old }
         requires right { T.right (page_of hand.old.ticket) piece }
-        ensures { hand.new ≡ record hand.old { ticket = Free } }
+        ensures { hand.new ≡ after_finish hand.old }
     {
         let page = hand.page;
         let place = self.place_of(page);

@@ -1,4 +1,4 @@
-ghost use Rattle.std.specs.Prelude.{◌≡◌, ℕ, ◌+◌, ◌*◌, ◌^◌, ◌<◌, ◌≤◌, true, false, if◌then◌else◌, MatchBool, IfSome};
+ghost use Rattle.std.specs.Prelude.{◌≡◌, ℕ, ◌+◌, ◌*◌, ◌^◌, ◌<◌, ◌≤◌, true, false, if◌then◌else◌, IsTrue, IfSome};
 ghost use Rattle.commit_places.specs.Seats.{MayDraw, HasDrawn, MayTake};
 ghost use Rattle.commit_places.specs.Steps.{page_of};
 ghost use Rattle.commit_places.specs.declared.view.Ticket.TheVariants.{Free, Held};
@@ -34,36 +34,47 @@ fn square(page: u32) -> u64
     number * number
 }
 
+// The hand draws this page, begins it at once and lays its piece down.
+fn make_at_once<R: Abort>(rt: &R, places: &Places<Squares>, hand: &mut Hand<u64>, page: u32)
+    requires { (hand.old.places ≡ places.now) × MayDraw hand.old }
+    ensures { (hand.new.places ≡ places.now) × MayDraw hand.new }
+{
+    assert_eq!(rt; places.draw(hand), Draw::Page(page));
+    assert_eq!(rt; places.ready(hand), Ready::Go);
+    places.finish(hand, square(page));
+}
+
+// The piece of this page lies there, and is taken and committed.
+fn commit_at_once<R: Abort>(
+    rt: &R,
+    places: &Places<Squares>,
+    committer: &mut Committer<u64>,
+    page: u32,
+)
+    requires { (committer.old.places ≡ places.now) × MayTake committer.old page }
+    ensures { committer.new ≡ record committer.old { count = page; next = Waiting } }
+{
+    let Some(piece) = places.take(committer, page) else {
+        panic!(rt; "page {page} isn't there")
+    };
+    assert_eq!(rt; piece, square(page));
+    places.done(committer, page);
+}
+
 #[test]
 fn three_pages_by_one_hand(rt: HostRuntime) -> Result<(), Fail> {
     let made = Places::<Squares>::new(rt.alloc(), 3, 2, 1);
     let (places, mut committer, mut hand) = made.ok().ok_or("memory")?;
-    assert_eq!(rt; places.draw(&mut hand), Draw::Page(1));
-    assert_eq!(rt; places.ready(&mut hand), Ready::Go);
-    places.finish(&mut hand, square(1));
-    assert_eq!(rt; places.draw(&mut hand), Draw::Page(2));
-    assert_eq!(rt; places.ready(&mut hand), Ready::Go);
-    places.finish(&mut hand, square(2));
+    make_at_once(&rt, &places, &mut hand, 1);
+    make_at_once(&rt, &places, &mut hand, 2);
     assert_eq!(rt; places.draw(&mut hand), Draw::Page(3));
     assert_eq!(rt; places.ready(&mut hand), Ready::Later { committed: 0 });
-    let Some(piece) = places.take(&mut committer, 1) else {
-        return Err(Fail::from("page 1"));
-    };
-    assert_eq!(rt; piece, 1);
-    places.done(&mut committer, 1);
+    commit_at_once(&rt, &places, &mut committer, 1);
     assert_eq!(rt; places.ready(&mut hand), Ready::Go);
     places.finish(&mut hand, square(3));
     assert_eq!(rt; places.draw(&mut hand), Draw::Over);
-    let Some(piece) = places.take(&mut committer, 2) else {
-        return Err(Fail::from("page 2"));
-    };
-    assert_eq!(rt; piece, 4);
-    places.done(&mut committer, 2);
-    let Some(piece) = places.take(&mut committer, 3) else {
-        return Err(Fail::from("page 3"));
-    };
-    assert_eq!(rt; piece, 9);
-    places.done(&mut committer, 3);
+    commit_at_once(&rt, &places, &mut committer, 2);
+    commit_at_once(&rt, &places, &mut committer, 3);
     Ok(())
 }
 
@@ -144,7 +155,7 @@ fn begin<R: Wait>(rt: &R, places: &Places<Squares>, hand: &mut Hand<u64>) -> boo
 // Draws a page and makes its piece, once the page may begin. Says whether there may be another.
 fn make<R: Wait>(rt: &R, places: &Places<Squares>, hand: &mut Hand<u64>, made: &Tally) -> bool
     requires { (hand.old.places ≡ places.now) × MayDraw hand.old }
-    ensures { MatchBool result (hand.new ≡ hand.old) (hand.new.places ≡ hand.old.places) }
+    ensures { (hand.new.places ≡ hand.old.places) × (IsTrue result → MayDraw hand.new) }
 {
     let Draw::Page(page) = places.draw(hand) else {
         return false;

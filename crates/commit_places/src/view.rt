@@ -1,5 +1,7 @@
 //! What the seats know. No value of these types is ever made but of `Sizes`: they are what the proofs say of a seat.
 
+use std::collections::LinkedList;
+
 /// How many pages there are, how far past the committed ones a page may be begun, and how many workers there are at most.
 #[derive(Clone, Copy)]
 pub struct Sizes {
@@ -43,7 +45,6 @@ pub enum Next {
 }
 
 /// What a hand knows.
-#[derive(Clone, Copy)]
 pub struct HandView {
     /// The sizes.
     pub sizes: Sizes,
@@ -51,10 +52,13 @@ pub struct HandView {
     pub ticket: Ticket,
     /// Whether it drew that all pages are drawn.
     pub is_over: bool,
+    /// All pages that it drew, the last first.
+    pub drawn: LinkedList<u32>,
+    /// All pages whose pieces it laid down, the last first.
+    pub finished: LinkedList<u32>,
 }
 
 /// What the committer knows.
-#[derive(Clone, Copy)]
 pub struct CommitterView {
     /// The sizes.
     pub sizes: Sizes,
@@ -70,10 +74,13 @@ pub struct CommitterView {
     pub joined_over: u32,
     /// How many others came back.
     pub joined: u32,
+    /// All pages that the hands drew that came back.
+    pub drawn: LinkedList<u32>,
+    /// All pages whose pieces they laid down.
+    pub finished: LinkedList<u32>,
 }
 
 /// What a seat knows.
-#[derive(Clone, Copy)]
 pub enum View {
     /// The committer's seat.
     Committer(CommitterView),

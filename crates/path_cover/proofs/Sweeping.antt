@@ -9,7 +9,7 @@ use Rattle.ps_shapes.specs.declared.span.Span.{Span}
 use Rattle.ps_shapes.specs.Span.{is_in}
 use Rattle.ps_shapes.proofs.Ranges.{in_range, below_range, above_range}
 use Rattle.path_cover.specs.Cover.{is_inside}
-use Rattle.path_cover.specs.Marks.{is_going, crosses}
+use Rattle.path_cover.specs.Marks.{is_going, crosses, crossed}
 use Rattle.path_cover.specs.declared.crossing.Crossing.{Crossing}
 use Rattle.path_cover.proofs.Sides.{one_if, count_cons}
 
@@ -20,13 +20,9 @@ going down c = is_going down c.down
 abbrev pub Reached : List Crossing → ℕ → ℕ → ℕ → Type 0
 Reached cs i width at = (j : ℕ) (d : Crossing) → j < i → min (get_or cs j d).column width ≤ at
 
--- whether the pixel of column x is inside
-abbrev pub within : Bool → List Crossing → ℕ → Bool
-within odd cs x = is_inside odd (count_by (crosses true x) cs) (count_by (crosses false x) cs)
-
 -- the spans hold what they held, and the pixels of the row left of `at` that are inside
 abbrev pub Content : List Span → List Span → Bool → ℕ → ℕ → ℕ → List Crossing → Type 0
-Content old now odd row width at cs = (x y : ℕ) → x < width → is_in now x y ≡ (is_in old x y || (nat_eq row y && nat_lt x at && within odd cs x))
+Content old now odd row width at cs = (x y : ℕ) → x < width → is_in now x y ≡ (is_in old x y || (nat_eq row y && nat_lt x at && crossed odd cs x))
 
 pub count_same : {A : Type 0} (p q : A → Bool) (xs : List A) → ((k : ℕ) (d : A) → k < length xs → p (get_or xs k d) ≡ q (get_or xs k d)) → count_by p xs ≡ count_by q xs
 count_same p q [] h = refl
@@ -68,7 +64,7 @@ counts_between down cs i x before after =
     let both : count_by (crosses down x) (take i cs) + count_by (crosses down x) (drop i cs) ≡ count_by (crosses down x) cs = sum_by-take-drop (λ c. one_if (crosses down x c)) cs i in
     omega (arith, front, back, both)
 
-pub within_between : (odd : Bool) (cs : List Crossing) (i x width at here downs ups : ℕ) → Reached cs i width at → at ≤ x → x < width → x < here → ((j : ℕ) (d : Crossing) → i ≤ j → j < length cs → here ≤ (get_or cs j d).column) → downs ≡ count_by (going true) (take i cs) → ups ≡ count_by (going false) (take i cs) → within odd cs x ≡ is_inside odd downs ups
+pub within_between : (odd : Bool) (cs : List Crossing) (i x width at here downs ups : ℕ) → Reached cs i width at → at ≤ x → x < width → x < here → ((j : ℕ) (d : Crossing) → i ≤ j → j < length cs → here ≤ (get_or cs j d).column) → downs ≡ count_by (going true) (take i cs) → ups ≡ count_by (going false) (take i cs) → crossed odd cs x ≡ is_inside odd downs ups
 within_between odd cs i x width at here downs ups reached p q r after d u =
     let before : (j : ℕ) (d : Crossing) → j < i → (get_or cs j d).column ≤ x = λ j d k. let m : min (get_or cs j d).column width ≤ at = reached j d k in omega arith in
     let later : (j : ℕ) (d : Crossing) → i ≤ j → j < length cs → x < (get_or cs j d).column = λ j d k l. let m : here ≤ (get_or cs j d).column = after j d k l in omega arith in
@@ -93,11 +89,11 @@ gap_right false true w g = refl
 gap_right false false w g = refl
 
 -- a gap from `at` to `here`
-pub content_more : (old now next : List Span) (odd : Bool) (row width at here : ℕ) (cs : List Crossing) (inside : Bool) → Content old now odd row width at cs → ((x y : ℕ) → is_in next x y ≡ (is_in now x y || (nat_eq row y && (nat_le at x && nat_lt x here) && inside))) → ((x : ℕ) → at ≤ x → x < here → x < width → within odd cs x ≡ inside) → Content old next odd row width (max at here) cs
+pub content_more : (old now next : List Span) (odd : Bool) (row width at here : ℕ) (cs : List Crossing) (inside : Bool) → Content old now odd row width at cs → ((x y : ℕ) → is_in next x y ≡ (is_in now x y || (nat_eq row y && (nat_le at x && nat_lt x here) && inside))) → ((x : ℕ) → at ≤ x → x < here → x < width → crossed odd cs x ≡ inside) → Content old next odd row width (max at here) cs
 content_more old now next odd row width at here cs inside was adds same = λ x y h.
     let o = is_in old x y in
     let e = nat_eq row y in
-    let w = within odd cs x in
+    let w = crossed odd cs x in
     adds x y ∙ ap (λ b. b || (e && (nat_le at x && nat_lt x here) && inside)) (was x y h)
     ∙ elim (cases_lt x at) [
       | inl i ↦
@@ -119,10 +115,10 @@ nothing false true w = refl
 nothing false false w = refl
 
 pub content_none : (old : List Span) (odd : Bool) (row width : ℕ) (cs : List Crossing) → Content old old odd row width 0 cs
-content_none old odd row width cs = λ x y h. nothing (is_in old x y) (nat_eq row y) (within odd cs x) ∙ ap (λ t. is_in old x y || (nat_eq row y && t && within odd cs x)) (sym (le-ltb x 0 (omega arith)))
+content_none old odd row width cs = λ x y h. nothing (is_in old x y) (nat_eq row y) (crossed odd cs x) ∙ ap (λ t. is_in old x y || (nat_eq row y && t && crossed odd cs x)) (sym (le-ltb x 0 (omega arith)))
 
-pub content_all : (old now : List Span) (odd : Bool) (row width at : ℕ) (cs : List Crossing) → width ≤ at → Content old now odd row width at cs → (x y : ℕ) → x < width → is_in now x y ≡ (is_in old x y || (nat_eq row y && within odd cs x))
-content_all old now odd row width at cs far h x y i = h x y i ∙ ap (λ b. is_in old x y || b) (ap (λ t. nat_eq row y && t && within odd cs x) (lt-ltb x at (omega arith)) ∙ ap (λ t. t && within odd cs x) (and_true (nat_eq row y)))
+pub content_all : (old now : List Span) (odd : Bool) (row width at : ℕ) (cs : List Crossing) → width ≤ at → Content old now odd row width at cs → (x y : ℕ) → x < width → is_in now x y ≡ (is_in old x y || (nat_eq row y && crossed odd cs x))
+content_all old now odd row width at cs far h x y i = h x y i ∙ ap (λ b. is_in old x y || b) (ap (λ t. nat_eq row y && t && crossed odd cs x) (lt-ltb x at (omega arith)) ∙ ap (λ t. t && crossed odd cs x) (and_true (nat_eq row y)))
 
 pub reached_more : (cs : List Crossing) (i width at here : ℕ) (d : Crossing) → i < length cs → here ≡ min (get_or cs i d).column width → Reached cs i width at → Reached cs (i + 1) width (max at here)
 reached_more cs i width at here d h e was = λ j f k.

@@ -36,7 +36,8 @@ impl Edge {
     pub(crate) fn column(&self, row: u32, width: u32) -> u32
         requires first { self.now.first ≤ row }
         requires past { row < self.now.past }
-        ensures least { (x : ℕ) → x < width → nat_le result x ≡ is_left self.now.top self.now.bottom x row }
+        ensures least { (x : ℕ) → x < width →
+            nat_le result x ≡ is_left self.now.top self.now.bottom x row }
         ensures capped { result ≤ width }
     {
         let left = product(self.top.x, below(row, self.bottom.y));

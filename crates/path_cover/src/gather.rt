@@ -1,7 +1,7 @@
 //! The edges of polygons, gathered, and their crossings of a row.
-ghost use Rattle.std.specs.Prelude.{ℕ, ◌≡◌, ◌+◌, ◌<◌, Bool, OnOk, count_by, if◌then◌else◌};
+ghost use Rattle.std.specs.Prelude.{OnOk, count_by, if◌then◌else◌};
+ghost use Rattle.path_cover.specs.Adding.{CountsMore, CrossWhere};
 ghost use Rattle.path_cover.specs.Cover.{sides_after, counts, counted};
-ghost use Rattle.path_cover.specs.Marks.{marks, crosses};
 
 use crate::crossing::Crossing;
 use crate::edge::{Edge, row_at};
@@ -10,7 +10,8 @@ use ps_shapes::Point;
 
 /// Adds the edges of a closed polygon.
 pub(crate) fn gather(edges: &mut Vec<Edge>, points: &[Point], height: u32) -> Result<(), NoMemory>
-    ensures { OnOk result ((down : Bool) (x y : ℕ) → y < height → count_by (marks down x y) edges.new.items ≡ count_by (marks down x y) edges.old.items + counted down x y points.now) }
+    ensures { OnOk result (CountsMore height (λ down x y. counted down x y points.now)
+        edges.old.items edges.new.items) }
 {
     match points.last() {
         Some(last) => {
@@ -28,7 +29,9 @@ fn gather_after(
     points: &[Point],
     height: u32,
 ) -> Result<(), NoMemory>
-    ensures { OnOk result ((down : Bool) (x y : ℕ) → y < height → count_by (marks down x y) edges.new.items ≡ count_by (marks down x y) edges.old.items + count_by (counts down x y) (sides_after start points.now)) }
+    ensures { OnOk result (CountsMore height
+        (λ down x y. count_by (counts down x y) (sides_after start points.now))
+        edges.old.items edges.new.items) }
 {
     let mut from = start;
     for to in points {
@@ -40,7 +43,9 @@ fn gather_after(
 
 /// Adds the edge between two points, if it passes the centre of a row.
 fn add_side(edges: &mut Vec<Edge>, from: Point, to: Point, height: u32) -> Result<(), NoMemory>
-    ensures { OnOk result ((down : Bool) (x y : ℕ) → y < height → count_by (marks down x y) edges.new.items ≡ count_by (marks down x y) edges.old.items + (if counts down x y (from, to) then 1 else 0)) }
+    ensures { OnOk result (CountsMore height
+        (λ down x y. if counts down x y (from, to) then 1 else 0)
+        edges.old.items edges.new.items) }
 {
     let start = row_at(from.y, height);
     let end = row_at(to.y, height);
@@ -71,7 +76,7 @@ pub(crate) fn crossings(
     width: u32,
     out: &mut Vec<Crossing>,
 ) -> Result<(), NoMemory>
-    ensures { OnOk result ((down : Bool) (x : ℕ) → x < width → count_by (crosses down x) out.new.items ≡ count_by (marks down x row) active.now) }
+    ensures { OnOk result (CrossWhere width row active.now out.new.items) }
 {
     out.clear();
     for edge in active {

@@ -1,4 +1,5 @@
-//! The pixels that polygons cover.
+//! The pixels that polygons cover. What is inside them is section 4.5.3 of the language manual (insideness testing);
+//! that a pixel is covered where its centre is inside is the project's own rule.
 #![tactic(auto)]
 
 mod crossing;
@@ -8,14 +9,15 @@ mod merge;
 mod scan;
 mod sweep;
 
-ghost use Rattle.std.specs.Prelude.{ℕ, ◌≡◌, ◌<◌, IfOk};
-ghost use Rattle.ps_shapes.specs.Span.{IsOnPaper, IsOrdered, is_in};
+ghost use Rattle.std.specs.Prelude.{IfOk};
+ghost use Rattle.ps_shapes.specs.Span.{IsOnPaper, IsOrdered};
+ghost use Rattle.path_cover.specs.Adding.{HoldsExactly};
 ghost use Rattle.path_cover.specs.Cover.{covers, covers_together, covers_one};
 ghost use Rattle.path_cover.specs.Scattered.{IsScattered};
 
+use copy_lists::NoMemory;
 use gather::gather;
 use merge::merge;
-use copy_lists::NoMemory;
 use ps_shapes::{Polygon, Polygons, Rule, Span, Spans};
 use scan::scan;
 use std::alloc::Global;
@@ -28,7 +30,7 @@ pub fn cover(
     width: u32,
     height: u32,
 ) -> Result<Spans, NoMemory>
-    ensures exact { IfOk result (λ s. (x y : ℕ) → x < width → y < height → is_in s x y ≡ covers polygons.now rule x y) }
+    ensures exact { IfOk result (λ s. HoldsExactly width height (covers polygons.now rule) s) }
     ensures paper { IfOk result (λ s. IsOnPaper width height s) }
     ensures ordered { IfOk result (λ s. IsOrdered s) }
 {
@@ -46,7 +48,8 @@ fn unordered(
     width: u32,
     height: u32,
 ) -> Result<Vec<Span>, NoMemory>
-    ensures exact { IfOk result (λ s. (x y : ℕ) → x < width → y < height → is_in s.items x y ≡ covers polygons.now rule x y) }
+    ensures exact { IfOk result (λ s.
+        HoldsExactly width height (covers polygons.now rule) s.items) }
     ensures raw { IfOk result (λ s. IsScattered width height s.items) }
 {
     match rule {
@@ -64,7 +67,8 @@ fn together(
     width: u32,
     height: u32,
 ) -> Result<Vec<Span>, NoMemory>
-    ensures exact { IfOk result (λ s. (x y : ℕ) → x < width → y < height → is_in s.items x y ≡ covers_together odd polygons.now x y) }
+    ensures exact { IfOk result (λ s.
+        HoldsExactly width height (covers_together odd polygons.now) s.items) }
     ensures raw { IfOk result (λ s. IsScattered width height s.items) }
 {
     let mut edges = Vec::new(alloc);
@@ -83,7 +87,7 @@ fn apart(
     width: u32,
     height: u32,
 ) -> Result<Vec<Span>, NoMemory>
-    ensures exact { IfOk result (λ s. (x y : ℕ) → x < width → y < height → is_in s.items x y ≡ covers_one polygons.now x y) }
+    ensures exact { IfOk result (λ s. HoldsExactly width height (covers_one polygons.now) s.items) }
     ensures raw { IfOk result (λ s. IsScattered width height s.items) }
 {
     let mut edges = Vec::new(alloc);

@@ -2,6 +2,7 @@
 ghost use Rattle.std.specs.Prelude.{ℕ, ◌≡◌, ◌+◌, ◌*◌, ◌<◌, ◌≤◌, ◌||◌, [], ◌∷◌, ◌++◌, All, OnOk, IfOk, length, nat_eq, nat_le, ◌&&◌};
 ghost use Rattle.std.specs.List.Sorted.{IsNonDecreasingBy};
 ghost use Rattle.ps_shapes.specs.Span.{IsOrdered, IsOnPaper, holds, is_in};
+ghost use Rattle.path_cover.specs.Adding.{StaysOnPaper};
 ghost use Rattle.path_cover.specs.Scattered.{IsScattered, place_of, joined_of};
 
 use copy_lists::NoMemory;
@@ -27,7 +28,7 @@ pub(crate) fn merge(
 fn sort(spans: &mut Vec<Span>)
     ensures sorted { IsNonDecreasingBy place_of spans.new.items }
     ensures same { (x y : ℕ) → is_in spans.new.items x y ≡ is_in spans.old.items x y }
-    ensures raw { (width height : ℕ) → IsScattered width height spans.old.items → IsScattered width height spans.new.items }
+    ensures raw { (width height : ℕ) → StaysOnPaper width height spans.old.items spans.new.items }
 {
     spans.sort_unstable_by_key(|span| place(span));
 }

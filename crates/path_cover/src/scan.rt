@@ -1,11 +1,8 @@
 //! The rows that edges pass, from the top.
-ghost use Rattle.std.specs.Prelude.{ℕ, ◌≡◌, ◌+◌, ◌<◌, ◌≤◌, ◌&&◌, ◌||◌, Bool, OnOk, IfOk, count_by, nat_eq, nat_lt, length, drop, slice_index_or, true, false};
+ghost use Rattle.std.specs.Prelude.{◌≡◌, ◌≤◌, ◌&&◌, OnOk, IfOk, nat_eq, length, drop};
 ghost use Rattle.std.specs.List.Sorted.{IsNonDecreasingBy};
-ghost use Rattle.ps_shapes.specs.Span.{is_in};
-ghost use Rattle.path_cover.specs.Cover.{is_inside};
-ghost use Rattle.path_cover.specs.Marks.{marks, marked, crosses};
-ghost use Rattle.path_cover.specs.Scattered.{IsScattered};
-ghost use Rattle.path_cover.specs.declared.edge.Edge.{Edge};
+ghost use Rattle.path_cover.specs.Adding.{AddsInRow, AddsMarked, CountsOn, CountsOnFrom, CountsTheSame, CrossesTheSame, IsAboveAll, PassesNot, StaysOnPaper, StaysWithRow, is_inside_both};
+ghost use Rattle.path_cover.specs.Marks.{marked};
 
 use crate::crossing::Crossing;
 use crate::edge::Edge;
@@ -14,6 +11,14 @@ use crate::sweep::sweep;
 use copy_lists::NoMemory;
 use ps_shapes::Span;
 use std::alloc::Global;
+
+/// A row that is scanned: whether an odd number of edges makes a pixel inside, and the paper's width.
+#[derive(Clone, Copy)]
+struct Line {
+    row: u32,
+    odd: bool,
+    width: u32,
+}
 
 /// Adds the spans that the edges bound.
 pub(crate) fn scan(
@@ -24,8 +29,9 @@ pub(crate) fn scan(
     height: u32,
     spans: &mut Vec<Span>,
 ) -> Result<(), NoMemory>
-    ensures exact { OnOk result ((x y : ℕ) → x < width → y < height → is_in spans.new.items x y ≡ (is_in spans.old.items x y || marked odd edges.old.items x y)) }
-    ensures place { OnOk result (IsScattered width height spans.old.items → IsScattered width height spans.new.items) }
+    ensures exact { OnOk result (AddsMarked odd edges.old.items width height
+        spans.old.items spans.new.items) }
+    ensures place { OnOk result (StaysOnPaper width height spans.old.items spans.new.items) }
 {
     sort_edges(edges);
     walk(alloc, edges.as_slice(), odd, width, height, spans)?;
@@ -34,14 +40,14 @@ pub(crate) fn scan(
 
 fn sort_edges(edges: &mut Vec<Edge>)
     ensures sorted { IsNonDecreasingBy (λ e. e.first) edges.new.items }
-    ensures same { (down : Bool) (x y : ℕ) → count_by (marks down x y) edges.new.items ≡ count_by (marks down x y) edges.old.items }
+    ensures same { CountsTheSame 0 edges.old.items edges.new.items }
 {
     edges.sort_unstable_by_key(|edge| edge.first);
 }
 
 fn sort_crossings(crossings: &mut Vec<Crossing>)
     ensures sorted { IsNonDecreasingBy (λ c. c.column) crossings.new.items }
-    ensures same { (down : Bool) (x : ℕ) → count_by (crosses down x) crossings.new.items ≡ count_by (crosses down x) crossings.old.items }
+    ensures same { CrossesTheSame crossings.old.items crossings.new.items }
 {
     crossings.sort_unstable_by_key(|crossing| crossing.column);
 }
@@ -56,8 +62,9 @@ fn walk(
     spans: &mut Vec<Span>,
 ) -> Result<(), NoMemory>
     requires { IsNonDecreasingBy (λ e. e.first) edges.now }
-    ensures exact { OnOk result ((x y : ℕ) → x < width → y < height → is_in spans.new.items x y ≡ (is_in spans.old.items x y || marked odd edges.now x y)) }
-    ensures place { OnOk result (IsScattered width height spans.old.items → IsScattered width height spans.new.items) }
+    ensures exact { OnOk result (AddsMarked odd edges.now width height
+        spans.old.items spans.new.items) }
+    ensures place { OnOk result (StaysOnPaper width height spans.old.items spans.new.items) }
 {
     let mut active = Vec::new(alloc);
     let mut crossings = Vec::new(alloc);
@@ -66,16 +73,8 @@ fn walk(
         if is_done(edges, next, active.as_slice()) {
             return Ok(());
         }
-        next = step(
-            edges,
-            next,
-            row,
-            odd,
-            width,
-            &mut active,
-            &mut crossings,
-            spans,
-        )?;
+        let line = Line { row, odd, width };
+        next = step(line, edges, next, &mut active, &mut crossings, spans)?;
     }
     Ok(())
 }
@@ -83,7 +82,7 @@ fn walk(
 /// The first row that an edge passes.
 fn start(edges: &[Edge]) -> u32
     requires { IsNonDecreasingBy (λ e. e.first) edges.now }
-    ensures { (k : ℕ) (d : Edge) → k < length edges.now → result ≤ (slice_index_or edges.now k d).first }
+    ensures { IsAboveAll result edges.now }
 {
     match edges.first() {
         Some(edge) => edge.first,
@@ -100,11 +99,9 @@ fn is_done(edges: &[Edge], next: usize, active: &[Edge]) -> bool
 
 /// Adds the spans of one row, and gives the place of the first edge below it.
 fn step(
+    line: Line,
     edges: &[Edge],
     next: usize,
-    row: u32,
-    odd: bool,
-    width: u32,
     active: &mut Vec<Edge>,
     crossings: &mut Vec<Crossing>,
     spans: &mut Vec<Span>,
@@ -112,13 +109,16 @@ fn step(
     requires sorted { IsNonDecreasingBy (λ e. e.first) edges.now }
     requires next { next ≤ length edges.now }
     ensures next { IfOk result (λ n. n ≤ length edges.now) }
-    ensures kept { IfOk result (λ n. (down : Bool) (x y : ℕ) → row ≤ y → count_by (marks down x y) active.new.items + count_by (marks down x y) (drop n edges.now) ≡ count_by (marks down x y) active.old.items + count_by (marks down x y) (drop next edges.now)) }
-    ensures exact { OnOk result ((x y : ℕ) → x < width → is_in spans.new.items x y ≡ (is_in spans.old.items x y || (nat_eq row y && is_inside odd (count_by (marks true x row) active.old.items + count_by (marks true x row) (drop next edges.now)) (count_by (marks false x row) active.old.items + count_by (marks false x row) (drop next edges.now))))) }
-    ensures place { OnOk result ((height : ℕ) → row < height → IsScattered width height spans.old.items → IsScattered width height spans.new.items) }
+    ensures kept { IfOk result (λ n. CountsOnFrom line.row active.old.items (drop next edges.now)
+        active.new.items (drop n edges.now)) }
+    ensures exact { OnOk result (AddsInRow line.row line.width
+        (is_inside_both line.odd line.row active.old.items (drop next edges.now))
+        spans.old.items spans.new.items) }
+    ensures place { OnOk result (StaysWithRow line.row line.width spans.old.items spans.new.items) }
 {
-    let below = enter(edges, next, row, active)?;
-    retire(active, row);
-    line(active.as_slice(), row, odd, width, crossings, spans)?;
+    let below = enter(edges, next, line.row, active)?;
+    retire(active, line.row);
+    add_line(line, active.as_slice(), crossings, spans)?;
     Ok(below)
 }
 
@@ -127,8 +127,9 @@ fn enter(edges: &[Edge], next: usize, row: u32, active: &mut Vec<Edge>) -> Resul
     requires sorted { IsNonDecreasingBy (λ e. e.first) edges.now }
     requires next { next ≤ length edges.now }
     ensures next { IfOk result (λ n. n ≤ length edges.now) }
-    ensures kept { IfOk result (λ n. (down : Bool) (x y : ℕ) → count_by (marks down x y) active.new.items + count_by (marks down x y) (drop n edges.now) ≡ count_by (marks down x y) active.old.items + count_by (marks down x y) (drop next edges.now)) }
-    ensures rest { IfOk result (λ n. (down : Bool) (x : ℕ) → count_by (marks down x row) (drop n edges.now) ≡ 0) }
+    ensures kept { IfOk result (λ n. CountsOn active.old.items (drop next edges.now)
+        active.new.items (drop n edges.now)) }
+    ensures rest { IfOk result (λ n. PassesNot row (drop n edges.now)) }
 {
     for place in next..edges.len() {
         if edges[place].first > row {
@@ -141,25 +142,25 @@ fn enter(edges: &[Edge], next: usize, row: u32, active: &mut Vec<Edge>) -> Resul
 
 /// Takes away the edges that end at the row or above it.
 fn retire(active: &mut Vec<Edge>, row: u32)
-    ensures { (down : Bool) (x y : ℕ) → row ≤ y → count_by (marks down x y) active.new.items ≡ count_by (marks down x y) active.old.items }
+    ensures { CountsTheSame row active.old.items active.new.items }
 {
     active.retain(|edge| row < edge.past);
 }
 
 /// Adds the spans of the row.
-fn line(
+fn add_line(
+    line: Line,
     active: &[Edge],
-    row: u32,
-    odd: bool,
-    width: u32,
     out: &mut Vec<Crossing>,
     spans: &mut Vec<Span>,
 ) -> Result<(), NoMemory>
-    ensures exact { OnOk result ((x y : ℕ) → x < width → is_in spans.new.items x y ≡ (is_in spans.old.items x y || (nat_eq row y && is_inside odd (count_by (marks true x row) active.now) (count_by (marks false x row) active.now)))) }
-    ensures place { OnOk result ((height : ℕ) → row < height → IsScattered width height spans.old.items → IsScattered width height spans.new.items) }
+    ensures exact { OnOk result (AddsInRow line.row line.width
+        (λ x. marked line.odd active.now x line.row)
+        spans.old.items spans.new.items) }
+    ensures place { OnOk result (StaysWithRow line.row line.width spans.old.items spans.new.items) }
 {
-    crossings(active, row, width, out)?;
+    crossings(active, line.row, line.width, out)?;
     sort_crossings(out);
-    sweep(out.as_slice(), odd, row, width, spans)?;
+    sweep(out.as_slice(), line.odd, line.row, line.width, spans)?;
     Ok(())
 }

@@ -1,10 +1,9 @@
 //! The spans of a row.
-ghost use Rattle.std.specs.Prelude.{ℕ, ◌≡◌, ◌<◌, ◌≤◌, ◌&&◌, ◌||◌, Bool, OnOk, count_by, nat_eq, nat_le, nat_lt, not, length, true, false};
+ghost use Rattle.std.specs.Prelude.{ℕ, ◌≡◌, ◌<◌, ◌≤◌, OnOk};
 ghost use Rattle.std.specs.List.Sorted.{IsNonDecreasingBy};
-ghost use Rattle.ps_shapes.specs.Span.{holds, is_in};
+ghost use Rattle.path_cover.specs.Adding.{AddsGap, AddsInRow, StaysWithRow};
 ghost use Rattle.path_cover.specs.Cover.{is_inside};
-ghost use Rattle.path_cover.specs.Marks.{crosses, is_going};
-ghost use Rattle.path_cover.specs.Scattered.{IsScattered};
+ghost use Rattle.path_cover.specs.Marks.{crossed};
 
 use crate::crossing::Crossing;
 use copy_lists::NoMemory;
@@ -19,8 +18,9 @@ pub(crate) fn sweep(
     spans: &mut Vec<Span>,
 ) -> Result<(), NoMemory>
     requires { IsNonDecreasingBy (λ c. c.column) crossings.now }
-    ensures exact { OnOk result ((x y : ℕ) → x < width → is_in spans.new.items x y ≡ (is_in spans.old.items x y || (nat_eq row y && is_inside odd (count_by (crosses true x) crossings.now) (count_by (crosses false x) crossings.now)))) }
-    ensures place { OnOk result ((height : ℕ) → row < height → IsScattered width height spans.old.items → IsScattered width height spans.new.items) }
+    ensures exact { OnOk result (AddsInRow row width (crossed odd crossings.now)
+        spans.old.items spans.new.items) }
+    ensures place { OnOk result (StaysWithRow row width spans.old.items spans.new.items) }
 {
     let mut downs = 0usize;
     let mut ups = 0usize;
@@ -38,8 +38,9 @@ pub(crate) fn sweep(
 
 /// Adds the span of a gap between two crossings, if the gap is inside.
 fn gap(spans: &mut Vec<Span>, row: u32, first: u32, past: u32, inside: bool) -> Result<(), NoMemory>
-    ensures exact { OnOk result ((x y : ℕ) → is_in spans.new.items x y ≡ (is_in spans.old.items x y || (nat_eq row y && (nat_le first x && nat_lt x past) && inside))) }
-    ensures place { OnOk result ((width height : ℕ) → row < height → past ≤ width → IsScattered width height spans.old.items → IsScattered width height spans.new.items) }
+    ensures exact { OnOk result (AddsGap row first past inside spans.old.items spans.new.items) }
+    ensures place { OnOk result ((width : ℕ) → past ≤ width →
+        StaysWithRow row width spans.old.items spans.new.items) }
 {
     if inside && first < past {
         spans.push(Span { row, first, past })?;

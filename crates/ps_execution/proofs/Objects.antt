@@ -19,7 +19,8 @@ use Rattle.ps_objects.specs.declared.place.Shape.{Shape}
 use Rattle.ps_objects.specs.declared.place.Shape.TheVariants as shape
 use Rattle.ps_objects.specs.declared.place.Value.{Value}
 use Rattle.ps_objects.specs.declared.place.Value.TheVariants as value
-use Rattle.ps_kinds.specs.Frames.{frame_room}
+use Rattle.ps_kinds.specs.declared.frame.TheConstants.{FRAME_LIMIT}
+use Rattle.ps_kinds.specs.Frames.{frames_room}
 use Rattle.ps_kinds.specs.declared.act.Act.{Act}
 use Rattle.ps_kinds.specs.declared.act.Act.TheVariants as act
 use Rattle.ps_kinds.specs.declared.frame.Frame.{Frame}
@@ -96,7 +97,7 @@ module _ (text : List ℕ) (W : World) (s : State) (f : Fits text W s) where
       go (Err e) = failed_fits e
 
   begins_lawful : (g : Frame) → FitsFrame W.shapes g → Lawful (applies s.frames (begins g s) s) W Q
-  begins_lawful g h = go (frame_room s.frames)
+  begins_lawful g h = go (frames_room 1 s.frames)
     where
       go : (r : Result (Unit {0}) ErrorName) → Lawful (applies s.frames (read r (λ _. done [] (record { state = s; frames = []; act = act.Body g }))) s) W Q
       go (Ok u) = went_fits (act.Body g) s.regs.operands f.state.registers.operands h
@@ -132,8 +133,8 @@ module _ (text : List ℕ) (W : World) (s : State) (f : Fits text W s) where
       room (Err e) = failed_fits e
 
       go : (r : Result (Unit {0}) ErrorName)
-          → Lawful (applies s.frames (read r (λ _. read (frame_room s.frames) (λ _. looks_at_bytes part.cell part.start part.len (λ bs. done [] (record { state = s; frames = []; act = act.Body (frame.Text x bs 0) }))))) s) W Q
-      go (Ok u) = room (frame_room s.frames)
+          → Lawful (applies s.frames (read r (λ _. read (frames_room 1 s.frames) (λ _. looks_at_bytes part.cell part.start part.len (λ bs. done [] (record { state = s; frames = []; act = act.Body (frame.Text x bs 0) }))))) s) W Q
+      go (Ok u) = room (frames_room 1 s.frames)
       go (Err e) = failed_fits e
 
   searches_lawful : (ds : List Cell) (k : Key) (found : Object → Application Effect) (missing : Application Effect) → AllByRecursion (IsDict W.shapes) ds
@@ -199,7 +200,7 @@ module _ (P : Program) (T : LawfulTable P.table) (W : World) (s : State) (f : Fi
 
 -- the entry of an error fits
 pub entry_fits : (W : World) (e : ErrorName) (n : ℕ) (d : Cell) (k : Key) (v : Value) → IsAnswer W (loc.Entry d k) v → FitsObject W.shapes (entry_in e n v)
-entry_fits W e n d k (value.Object x) a = go (x.exec && is_body_kind x.kind && not (nat_lt n 1000))
+entry_fits W e n d k (value.Object x) a = go (x.exec && is_body_kind x.kind && not (nat_lt n FRAME_LIMIT))
   where
     go : (b : Bool) → FitsObject W.shapes (cond b (operator (default_entry e)) x)
     go true = tt

@@ -17,7 +17,9 @@ use Rattle.ps_objects.specs.declared.place.Loc.{Loc}
 use Rattle.ps_objects.specs.declared.place.Loc.TheVariants as loc
 use Rattle.ps_objects.specs.declared.place.Value.{Value}
 use Rattle.ps_objects.specs.declared.place.Value.TheVariants as value
-use Rattle.ps_kinds.specs.Frames.{frame_room}
+use Rattle.ps_objects.specs.declared.objects.TheConstants.{OPERAND_LIMIT}
+use Rattle.ps_kinds.specs.declared.frame.TheConstants.{FRAME_LIMIT}
+use Rattle.ps_kinds.specs.Frames.{frames_room}
 use Rattle.ps_kinds.specs.declared.act.Act.TheVariants as act
 use Rattle.ps_kinds.specs.declared.frame.Frame.{Frame}
 use Rattle.ps_kinds.specs.declared.frame.Frame.TheVariants as frame
@@ -43,7 +45,7 @@ abbrev pub pushes : Object → State → Application Effect
 pushes x s = read (room_for 1 s.regs.operands) (λ _. goes_on (pushed x s))
 
 abbrev pub begins : Frame → State → Application Effect
-begins f s = read (frame_room s.frames) (λ _. done [] (record { state = s; frames = []; act = act.Body f }))
+begins f s = read (frames_room 1 s.frames) (λ _. done [] (record { state = s; frames = []; act = act.Body f }))
 
 -- ---- procedures and strings
 
@@ -63,7 +65,7 @@ runs_procedure x len s = read (run_right x.access) (λ _. cond (len == 0) (goes_
 -- a string is looked at whole as its frame begins
 abbrev pub runs_string : Object → Interval → State → Application Effect
 runs_string x part s =
-    read (run_right x.access) (λ _. read (frame_room s.frames) (λ _.
+    read (run_right x.access) (λ _. read (frames_room 1 s.frames) (λ _.
     looks_at_bytes part.cell part.start part.len (λ bs. done [] (record { state = s; frames = []; act = act.Body (frame.Text x bs 0) }))))
 
 -- what an operator as `exec` does with its operand: a name, an operator and the like is the one item of a frame of its own
@@ -116,7 +118,7 @@ executes P x s = cond x.exec (met_kind P x x.kind s) (pushes x s)
 
 -- the operands with the executed object of an error, which may be the 5,001st, and takes the place of the top one above that
 abbrev pub with_failed : Object → List Object → List Object
-with_failed x xs = cond (nat_lt 5000 (length xs)) (x ∷ drop 1 xs) (x ∷ xs)
+with_failed x xs = cond (nat_lt OPERAND_LIMIT (length xs)) (x ∷ drop 1 xs) (x ∷ xs)
 
 abbrev pub error_entry : ErrorName → Loc
 error_entry e = loc.Entry error_dict (key.Name (bytes_of e))
@@ -128,7 +130,7 @@ is_body_kind _ = false
 
 -- a procedure or a string that would have no room for its frame, empty or not, gives way to the default entry
 abbrev pub entry_in : ErrorName → ℕ → Value → Object
-entry_in e frames (value.Object x) = cond (x.exec && is_body_kind x.kind && not (nat_lt frames 1000)) (operator (default_entry e)) x
+entry_in e frames (value.Object x) = cond (x.exec && is_body_kind x.kind && not (nat_lt frames FRAME_LIMIT)) (operator (default_entry e)) x
 entry_in e frames _ = operator (default_entry e)
 
 abbrev pub item_in : Value → Object

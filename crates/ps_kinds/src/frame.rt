@@ -1,6 +1,6 @@
 //! Frames.
 ghost use Rattle.std.specs.Prelude.{◌≡◌, IfOk};
-ghost use Rattle.ps_kinds.specs.Frames.{frame_room};
+ghost use Rattle.ps_kinds.specs.Frames.{frames_room};
 
 use crate::{
     Boxed, Duplicate, ErrorName, Key, Matrix, NoMemory, Object, Path, Real, Sequence, ShowRun,
@@ -138,11 +138,11 @@ pub type Frames = Stack<Frame>;
 /// The most frames.
 pub const FRAME_LIMIT: usize = 1000;
 
-/// Whether one more frame stays within the limit: execstackoverflow.
-pub fn room_for_frame(frames: &Frames) -> Result<(), ErrorName>
-    ensures { result ≡ frame_room frames.now }
+/// Whether `n` more frames stay within the limit: execstackoverflow.
+pub fn frames_room(frames: &Frames, n: usize) -> Result<(), ErrorName>
+    ensures { result ≡ frames_room n frames.now }
 {
-    if frames.len() < FRAME_LIMIT {
+    if frames.len() <= FRAME_LIMIT && n <= FRAME_LIMIT - frames.len() {
         Ok(())
     } else {
         Err(ErrorName::ExecStackOverflow)

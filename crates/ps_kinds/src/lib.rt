@@ -13,7 +13,7 @@ mod tests;
 
 pub use act::Act;
 pub use copy_lists::{Boxed, Duplicate, NoMemory, Sequence, Stack, Text};
-pub use frame::{FRAME_LIMIT, Frame, Frames, ImageRun, Pair, PathWalk, Samples, room_for_frame};
+pub use frame::{FRAME_LIMIT, Frame, Frames, ImageRun, Pair, PathWalk, Samples, frames_room};
 pub use graphics::{Colour, GStack, GState, Layer};
 pub use ps_objects::{
     Access, Cell, DICT_STACK_LIMIT, DictStack, ErrorName, FileName, Interval, Key, KeyForm, Keys,
@@ -21,8 +21,8 @@ pub use ps_objects::{
     SaveName, SectionKind, Settings, Shape, Space, Value, dict_room, op_name, places,
 };
 pub use ps_shapes::{
-    Clip, Clips, DevicePoint, Matrix, Paper, Path, Point, Polygon, Polygons, Real, Rule, Segment,
-    Span, Spans, SpansList, Thresholds,
+    Clip, Clips, DevicePoint, Matrix, ONE, Paper, Path, Point, Polygon, Polygons, Real, Rule,
+    Segment, Span, Spans, SpansList, Thresholds,
 };
 pub use ranges::{Component, Lengths, LineCap, LineJoin, LineWidth, MiterLimit, PageSide};
 pub use regs::{Pages, Papers, RegField, Regs, SaveMark, Saves};

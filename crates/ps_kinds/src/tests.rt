@@ -11,7 +11,7 @@ fn null() -> Object {
 
 fn start(rt: &HostRuntime) -> GState {
     let zero = Real { count: 0 };
-    let one = Real { count: 16777216 };
+    let one = Real { count: ONE };
     GState {
         ctm: Matrix {
             a: one,
@@ -137,6 +137,6 @@ fn copies_of_states_are_equal(rt: HostRuntime) -> Result<(), Fail> {
     assert!(rt; copy.frames.len() == 2);
     let said = Act::Say(Text::from_bytes(rt.alloc(), b"done")?);
     assert!(rt; matches!(said.copy()?, Act::Say(_)));
-    assert!(rt; room_for_frame(&Frames::new(rt.alloc())) == Ok(()));
+    assert!(rt; frames_room(&Frames::new(rt.alloc()), 1000) == Ok(()));
     Ok(())
 }

@@ -1,11 +1,10 @@
 -- A job starts in a sound state.
-use Rattle.std.proofs.Common.{◌≡◌, ◌≢◌, ℕ, suc, ◌<◌, Bool, true, false, cond, List, [], ◌∷◌, ◌++◌, Option, Some, None, refl, sym, ap, ◌∙◌, subst, true≢false, nat_eq, arith, take}
+use Rattle.std.proofs.Common.{◌≡◌, ◌≢◌, ℕ, suc, ◌<◌, ◌≤◌, Bool, true, false, cond, List, [], ◌∷◌, ◌++◌, Option, Some, None, refl, sym, ap, ◌∙◌, subst, true≢false, nat_eq, arith, take}
 use Rattle.std.specs.Prelude.{codes}
 use Rattle.std.specs.Bool.{⊤}
 use Rattle.std.specs.Ordering.{eq_by_cmp}
 use Rattle.std.specs.List.{AllByRecursion}
 use Rattle.std.specs.FinMap.{get, find, from_entries, get-from_entries}
-use Rattle.ps_shapes.specs.declared.numbers.Matrix.{Matrix}
 use Rattle.ps_names.specs.declared.places.TheConstants.{FIRST_DEFAULT_ENTRY}
 use Rattle.ps_objects.specs.Key.{cell_of_key}
 use Rattle.ps_objects.specs.Object.{cell_named}
@@ -17,13 +16,16 @@ use Rattle.ps_objects.specs.declared.access.Access.TheVariants.{Unlimited, ReadO
 use Rattle.ps_objects.specs.declared.key.Key.{Key}
 use Rattle.ps_objects.specs.declared.object.Object.{Object}
 use Rattle.ps_objects.specs.declared.place.Value.TheVariants as value
+use Rattle.ps_objects.specs.declared.place.Shape.{Shape}
 use Rattle.ps_objects.specs.declared.place.Shape.TheVariants as shape
+use Rattle.ps_objects.specs.declared.settings.Settings.{Settings}
 use Rattle.ps_names.specs.Operators.{operator_names, error_names}
 use Rattle.ps_memory.specs.Order.{cell_cmp, key_cmp}
-use Rattle.ps_memory.specs.Memory.{is_global, Cells, Content, dictionary, items, characters, Memory, Slot, entry, access, item, whole, held, is, object_found, in_content, at, shape_in, shape_at, blank}
+use Rattle.ps_memory.specs.Memory.{is_global, CellMap, Content, dictionary, items, characters, Memory, Slot, entry, access, item, whole, held, is, object_found, in_content, at, shape_in, shape_at, blank}
 use Rattle.ps_memory.specs.Ownership.{same_cell}
 use Rattle.ps_memory.proofs.Order.{cells_total, keys_total, cell_is, cell_itself, key_is}
 use Rattle.ps_meaning.specs.Fits.{Shapes, FitsObject, FitsKey, FitsFound, SharedFound, key_is_shared, value_is_shared}
+use Rattle.ps_meaning.proofs.Fits.{apart}
 use Rattle.ps_meaning.specs.Sound.{StringFits, IsUnique, StartStands, SoundMemory}
 use Rattle.ps_meaning.specs.Registers.{system_dict, global_dict, user_dict, SoundRegisters, world_of}
 use Rattle.ps_meaning.specs.Start.{error_dict, error_record, status_dict, font_directory, global_font_directory, version, product, empty_dash, numbered, system_values, system_entries, error_entries, error_record_entries, start_locals, start_globals, start_strings, start_memory, start_registers, StartLaw}
@@ -42,7 +44,7 @@ found_all {X} P (e ∷ es) all c = go (same_cell c e.0) refl (found_all P es all
     go true h rest = subst (λ d. P d e.1) (sym (cell_is c e.0 h)) all.0
     go false h rest = rest
 
-abbrev start_part : Bool → Cells
+abbrev start_part : Bool → CellMap
 start_part b = cond b (from_entries start_globals) (from_entries start_locals)
 
 -- a fact of each content of the start memory holds of what stands under a cell
@@ -175,9 +177,9 @@ small = (omega arith, (omega arith, (omega arith, (omega arith, (omega arith, (o
 page_rip : StringFits (Some (shape.Str 8)) (Some (codes "page-rip"))
 page_rip = (codes "page-rip", refl, refl, small)
 
-module _ (n : ℕ) (matrix : Matrix) (width height : ℕ) where
+module _ (n : ℕ) (s : Settings) where
   abbrev M : Memory
-  M = start_memory width height
+  M = start_memory s
 
   abbrev K : Shapes
   K = shape_at M
@@ -254,10 +256,10 @@ module _ (n : ℕ) (matrix : Matrix) (width height : ℕ) where
     strings = λ c. string_at c (same_cell c version) (same_cell c product) refl refl;
     kept = tt;
     rand = refl;
-    page = (blank width height, refl, refl);
+    page = (blank s.width s.height, refl, refl);
   }
 
-  registers : SoundRegisters (world_of n M) (start_registers matrix width height)
+  registers : SoundRegisters (world_of n M) (start_registers s)
   registers = record {
     operands = tt;
     dicts = ((0, stands.1.1.0), ((0, stands.1.0), ((0, stands.0), tt)));
@@ -269,4 +271,10 @@ module _ (n : ℕ) (matrix : Matrix) (width height : ℕ) where
   }
 
 pub start_law : StartLaw
-start_law matrix width height = record { registers = λ n. registers n matrix width height; memory = λ n. memory n matrix width height }
+start_law s = (record { registers = λ n. registers n s; memory = λ n. memory n s }, record { cells = λ c l. unnamed s c l (shape_at (start_memory s) c) refl; saves = λ q l. refl })
+  where
+    unnamed : (s : Settings) (c : Cell) → 1 ≤ c.section → (o : Option Shape) → shape_at (start_memory s) c ≡ o → o ≡ None
+    unnamed s c l None e = refl
+    unnamed s c l (Some sh) e =
+        let (z, _) = name_of c (get (cond (is_global c) (start_memory s).globals (start_memory s).locals) c) (named 1 s c) (λ n. apart sh (sym e ∙ n)) in
+        absurd (omega (arith, l, z))

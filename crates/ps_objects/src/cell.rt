@@ -1,5 +1,5 @@
 //! The names of composite objects and of saves.
-ghost use Rattle.std.specs.Prelude.{IsTrue, ◌↔◌};
+ghost use Rattle.std.specs.Prelude.{◌≡◌};
 
 use crate::{Duplicate, NoMemory};
 
@@ -26,13 +26,21 @@ pub struct SaveName {
 }
 
 impl Cell {
-    ghost use Rattle.ps_objects.specs.Cell.{IsNewer};
+    ghost use Rattle.ps_objects.specs.Cell.{comes_after, newer};
 
-    /// Whether the cell was made after the save.
-    pub fn is_newer_than(self, save: SaveName) -> bool
-        ensures { IsTrue result ↔ IsNewer self save }
+    /// Whether the cell, local or global, was made after the save.
+    pub fn comes_after(self, save: SaveName) -> bool
+        ensures { result ≡ comes_after self save }
     {
-        save.section < self.section || (save.section == self.section && save.count < self.count)
+        let sections = self.section.cmp(&save.section);
+        sections.then(self.count.cmp(&save.count)).is_gt()
+    }
+
+    /// Whether the cell is local and was made after the save: a restore of the save takes it away.
+    pub fn is_newer_than(self, save: SaveName) -> bool
+        ensures { result ≡ newer self save }
+    {
+        self.space == Space::Local && self.comes_after(save)
     }
 }
 

@@ -3,6 +3,7 @@
 
 mod access;
 mod cell;
+mod hash;
 mod key;
 mod name;
 mod object;
@@ -17,6 +18,7 @@ mod tests;
 pub use access::Access;
 pub use cell::{Cell, SaveName, Space};
 pub use copy_lists::{Duplicate, NoMemory, Sequence, Stack, Text};
+pub use hash::name_hash;
 pub use key::{Key, KeyForm, Keys};
 pub use name::Name;
 pub use object::{Kind, Object};
@@ -26,7 +28,7 @@ pub use objects::{
 };
 pub use place::{Loc, Shape, Value};
 pub use ps_names::{ErrorName, NAME_LIMIT, Op, op_name, places};
-pub use ps_shapes::{Matrix, Paper, Real};
+pub use ps_shapes::{Matrix, ONE, Paper, Real};
 pub use refusal::Refusal;
 pub use section::SectionKind;
 pub use settings::Settings;

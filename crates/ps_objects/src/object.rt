@@ -40,34 +40,45 @@ pub struct Object {
 // Stacks and memory hold many objects.
 const _: () = prove!(size_of::<Object>() <= 48);
 
-impl Kind {
-    pub fn copy(&self) -> Result<Kind, NoMemory>
-        ensures { IfOk result (λ kind. kind ≡ self.now) }
-    {
-        Ok(match self {
-            Kind::Integer(n) => Kind::Integer(*n),
-            Kind::Real(r) => Kind::Real(*r),
-            Kind::Boolean(b) => Kind::Boolean(*b),
-            Kind::Null => Kind::Null,
-            Kind::Mark => Kind::Mark,
-            Kind::Name(name) => Kind::Name(name.copy()?),
-            Kind::Operator(op) => Kind::Operator(*op),
-            Kind::Str(interval) => Kind::Str(*interval),
-            Kind::Array { interval, packed } => Kind::Array {
-                interval: *interval,
-                packed: *packed,
-            },
-            Kind::Dict(cell) => Kind::Dict(*cell),
-            Kind::File { section } => Kind::File { section: *section },
-            Kind::Filter { section, layer } => Kind::Filter {
-                section: *section,
-                layer: *layer,
-            },
-            Kind::Save(save) => Kind::Save(*save),
-            Kind::FontId(cell) => Kind::FontId(*cell),
-        })
-    }
+/// An object of these parts.
+macro_rules! whole {
+    ($exec:expr, $access:expr, $kind:expr) => {
+        Object { kind: $kind, exec: $exec, access: $access }
+    };
 }
+
+/// An equal object, or what `$wrap` makes of it. Each arm makes the whole: an object that is put together after the match
+/// costs twice as much.
+macro_rules! copied {
+    ($object:expr, $($wrap:tt)*) => {{
+        let Object { kind, exec, access } = $object;
+        Ok(match kind {
+            Kind::Integer(n) => $($wrap)*(whole!(*exec, *access, Kind::Integer(*n))),
+            Kind::Real(r) => $($wrap)*(whole!(*exec, *access, Kind::Real(*r))),
+            Kind::Boolean(b) => $($wrap)*(whole!(*exec, *access, Kind::Boolean(*b))),
+            Kind::Null => $($wrap)*(whole!(*exec, *access, Kind::Null)),
+            Kind::Mark => $($wrap)*(whole!(*exec, *access, Kind::Mark)),
+            Kind::Name(name) => $($wrap)*(whole!(*exec, *access, Kind::Name(name.copy()?))),
+            Kind::Operator(op) => $($wrap)*(whole!(*exec, *access, Kind::Operator(*op))),
+            Kind::Str(part) => $($wrap)*(whole!(*exec, *access, Kind::Str(*part))),
+            Kind::Array { interval, packed } => {
+                $($wrap)*(whole!(*exec, *access, Kind::Array { interval: *interval, packed: *packed }))
+            }
+            Kind::Dict(cell) => $($wrap)*(whole!(*exec, *access, Kind::Dict(*cell))),
+            Kind::File { section } => {
+                $($wrap)*(whole!(*exec, *access, Kind::File { section: *section }))
+            }
+            Kind::Filter { section, layer } => {
+                $($wrap)*(whole!(*exec, *access, Kind::Filter { section: *section, layer: *layer }))
+            }
+            Kind::Save(save) => $($wrap)*(whole!(*exec, *access, Kind::Save(*save))),
+            Kind::FontId(cell) => $($wrap)*(whole!(*exec, *access, Kind::FontId(*cell))),
+        })
+    }};
+}
+
+pub(crate) use copied;
+pub(crate) use whole;
 
 impl Kind {
     ghost use Rattle.ps_objects.specs.Object.{cell_named};
@@ -89,11 +100,7 @@ impl Object {
     pub fn copy(&self) -> Result<Object, NoMemory>
         ensures { IfOk result (λ object. object ≡ self.now) }
     {
-        Ok(Object {
-            kind: self.kind.copy()?,
-            exec: self.exec,
-            access: self.access,
-        })
+        copied!(self,)
     }
 }
 

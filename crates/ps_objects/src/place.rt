@@ -1,7 +1,8 @@
 //! The places of memory, and the values there.
 ghost use Rattle.std.specs.Prelude.{◌≡◌, IfOk};
 
-use crate::{Access, Cell, Key, Keys, NoMemory, Object, Paper};
+use crate::object::{copied, whole};
+use crate::{Access, Cell, Key, Keys, Kind, NoMemory, Object, Paper};
 
 /// A place of memory.
 #[derive(PartialEq, Eq, PartialOrd, Ord, Drop)]
@@ -70,14 +71,14 @@ impl Value {
     pub fn copy(&self) -> Result<Value, NoMemory>
         ensures { IfOk result (λ value. value ≡ self.now) }
     {
-        Ok(match self {
-            Value::Absent => Value::Absent,
-            Value::Object(object) => Value::Object(object.copy()?),
-            Value::Byte(byte) => Value::Byte(*byte),
-            Value::Access(access) => Value::Access(*access),
-            Value::Keys(keys) => Value::Keys(keys.copy()?),
-            Value::Rand(state) => Value::Rand(*state),
-            Value::Paper(paper) => Value::Paper(paper.copy()?),
-        })
+        match self {
+            Value::Absent => Ok(Value::Absent),
+            Value::Object(object) => copied!(object, Value::Object),
+            Value::Byte(byte) => Ok(Value::Byte(*byte)),
+            Value::Access(access) => Ok(Value::Access(*access)),
+            Value::Keys(keys) => Ok(Value::Keys(keys.copy()?)),
+            Value::Rand(state) => Ok(Value::Rand(*state)),
+            Value::Paper(paper) => Ok(Value::Paper(paper.copy()?)),
+        }
     }
 }

@@ -1,4 +1,5 @@
 use super::*;
+use std::cmp::Ordering;
 use std::test::Fail;
 
 fn name(rt: &HostRuntime, bytes: &[u8]) -> Result<Name, Refusal> {
@@ -53,7 +54,7 @@ fn copies_are_equal(rt: HostRuntime) -> Result<(), Fail> {
 
 #[test]
 fn keys_are_in_their_order(rt: HostRuntime) -> Result<(), Fail> {
-    let one = Real { count: 16777216 };
+    let one = Real { count: ONE };
     assert!(rt; Kind::Real(one).key_form()? == KeyForm::Key(Key::Integer(1)));
     let mut keys = Keys::new(rt.alloc());
     keys.push(Key::Name(name(&rt, b"abc")?))?;
@@ -89,6 +90,28 @@ fn keys_are_in_their_order(rt: HostRuntime) -> Result<(), Fail> {
     keys.push(Key::Mark)?;
     let keys = keys.into_vec();
     assert!(rt; keys.as_slice().windows(2).all(|pair| pair[0] < pair[1]));
+    assert!(rt; Key::Mark.compare(&Key::FontId(CELL)) == Ordering::Greater);
+    let save = SaveName {
+        section: 2,
+        count: 6,
+    };
+    assert!(rt; CELL.comes_after(save));
+    assert!(rt; CELL.is_newer_than(save));
+    let global = Cell {
+        section: 2,
+        count: 7,
+        space: Space::Global,
+    };
+    assert!(rt; !global.is_newer_than(save));
+    Ok(())
+}
+
+/// Published hashes of these bytes.
+#[test]
+fn names_have_hashes(rt: HostRuntime) -> Result<(), Fail> {
+    assert!(rt; name_hash(b"") == 0xcbf29ce484222325);
+    assert!(rt; name(&rt, b"a")?.hash() == 0xaf63dc4c8601ec8c);
+    assert!(rt; name(&rt, b"foobar")?.hash() == 0x85944171f73967e8);
     Ok(())
 }
 

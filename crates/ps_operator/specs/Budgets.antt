@@ -2,13 +2,13 @@
 use Rattle.std.specs.Prelude.{ℕ, ◌+◌, Bool, false, not, ◌&&◌, ◌||◌, nat_lt, nat_eq, List, length, if◌then◌else◌, Option, Some, None, Result, Ok, Err}
 use Rattle.ps_objects.specs.declared.cell.Cell.{Cell}
 use Rattle.ps_names.specs.declared.error_name.ErrorName.{ErrorName}
-use Rattle.ps_names.specs.declared.error_name.ErrorName.TheVariants.{ExecStackOverflow, InvalidAccess, LimitCheck, VmError}
+use Rattle.ps_names.specs.declared.error_name.ErrorName.TheVariants.{InvalidAccess, LimitCheck, VmError}
 use Rattle.ps_objects.specs.declared.object.Kind.{Kind}
 use Rattle.ps_objects.specs.declared.section.SectionKind.{SectionKind}
-use Rattle.ps_kinds.specs.declared.frame.Frame.{Frame}
 use Rattle.ps_kinds.specs.declared.graphics.Layer.{Layer}
 use Rattle.ps_objects.specs.Object.{cell_named}
 use Rattle.ps_memory.specs.Memory.{is_global}
+pub use Rattle.ps_kinds.specs.Frames.{frames_room}
 use Rattle.ps_meaning.specs.Budgets.{unit_budget, message_budget, show_budget}
 
 -- n more units
@@ -22,10 +22,6 @@ message_room kind said n = if nat_lt (message_budget kind) (said + n) then Err L
 -- one more page
 abbrev pub show_room : SectionKind → ℕ → Result (Unit {0}) ErrorName
 show_room kind shows = if nat_lt shows (show_budget kind) then Ok tt else Err LimitCheck
-
--- n more frames
-abbrev pub frames_room : ℕ → List Frame → Result (Unit {0}) ErrorName
-frames_room n frames = if nat_lt 1000 (length frames + n) then Err ExecStackOverflow else Ok tt
 
 -- one more graphics state
 abbrev pub layer_room : List Layer → Result (Unit {0}) ErrorName

@@ -4,7 +4,7 @@ ghost use Rattle.ps_operator.specs.Registers.{current};
 ghost use Rattle.ps_meaning.specs.Budgets.{unit_budget, message_budget, show_budget};
 ghost use Rattle.ps_operator.specs.Budgets as spec;
 
-use ps_kinds::{Cell, DictStack, ErrorName, FRAME_LIMIT, Frames, GStack, Kind, SectionKind, Space};
+use ps_kinds::{Cell, DictStack, ErrorName, GStack, Kind, SectionKind, Space};
 
 /// The dictionary in which is defined.
 pub fn current(dicts: &DictStack) -> Cell
@@ -133,15 +133,4 @@ pub fn storable_entry(dict: Cell, key: Option<Cell>, kind: &Kind) -> Result<(), 
         return Err(ErrorName::InvalidAccess);
     }
     Ok(())
-}
-
-/// Whether `n` more frames stay within the limit: execstackoverflow.
-pub fn frames_room(frames: &Frames, n: usize) -> Result<(), ErrorName>
-    ensures { result ≡ spec.frames_room n frames.now }
-{
-    if frames.len() <= FRAME_LIMIT && n <= FRAME_LIMIT - frames.len() {
-        Ok(())
-    } else {
-        Err(ErrorName::ExecStackOverflow)
-    }
 }

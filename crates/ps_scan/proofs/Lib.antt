@@ -1,6 +1,5 @@
 pub mod BlankLemmas
 pub mod NumberLemmas
-pub mod PlainLemmas
 pub mod TokenLemmas
 pub mod StringLemmas
 pub mod RealLemmas

@@ -5,6 +5,7 @@ use Rattle.std.specs.List.{prefix_len, before_first}
 use Rattle.ps_objects.specs.declared.Real.{Real}
 use Rattle.ps_names.specs.declared.error_name.ErrorName.TheVariants.{LimitCheck, SyntaxError}
 use Rattle.ps_fixed.specs.declared.Undefined.{Undefined}
+use Rattle.ps_names.specs.declared.op.TheConstants.{NAME_LIMIT}
 use Rattle.ps_scan.specs.Characters.{is_delimiter, blanks}
 use Rattle.ps_scan.specs.Numbers.{is_integer, is_decimal, is_radix, integer_value, real_value, radix_value}
 use Rattle.ps_scan.specs.Strings.{string_limit, string_body, is_hex, hex_bytes}
@@ -44,7 +45,7 @@ named_short how.Literal row n = tt
 named_short how.Immediate row n = tt
 
 name_short : (k : NameKind) (row : List ℕ) (n : ℕ) → ScansShort (scan_of (name_token k row) n)
-name_short k row n = go (nat_le (length row) 127)
+name_short k row n = go (nat_le (length row) NAME_LIMIT)
   where
     go : (b : Bool) → ScansShort (scan_of (cond b (Ok (named k row)) (Err LimitCheck)) n)
     go true = named_short k row n

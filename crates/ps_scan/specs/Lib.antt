@@ -4,4 +4,3 @@ pub mod Significands
 pub mod Strings
 pub mod Limited
 pub mod Token
-pub mod Simple

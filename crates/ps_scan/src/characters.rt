@@ -9,7 +9,7 @@ pub(crate) fn is_white(byte: u8) -> bool
     matches!(byte, 0 | b'\t' | b'\n' | 0x0c | b'\r' | b' ')
 }
 
-pub(crate) fn is_special(byte: u8) -> bool
+pub fn is_special(byte: u8) -> bool
     ensures { result ≡ is_special byte }
 {
     matches!(
@@ -75,14 +75,14 @@ pub(crate) fn closing_length(text: &[u8]) -> usize
 }
 
 /// The text behind its white space and comments.
-pub(crate) fn skip_blanks(text: &[u8]) -> &[u8]
+pub fn skip_blanks(text: &[u8]) -> &[u8]
     ensures { result.now ≡ drop (blanks false text.now) text.now }
 {
     &text[blank_length(text)..]
 }
 
 /// The row of regular characters at the front, and the text behind it.
-pub(crate) fn split_row(text: &[u8]) -> (&[u8], &[u8])
+pub fn split_row(text: &[u8]) -> (&[u8], &[u8])
     ensures row { result.0.now ≡ before_first is_delimiter text.now }
     ensures rest { result.1.now ≡ drop (position_or_len is_delimiter text.now) text.now }
 {

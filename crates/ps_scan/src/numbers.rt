@@ -35,7 +35,7 @@ fn is_digits(bytes: &[u8]) -> bool
 }
 
 #[tactic(auto, unfolding(crate::specs::Numbers::is_integer))]
-pub(crate) fn is_integer(row: &[u8]) -> bool
+pub fn is_integer(row: &[u8]) -> bool
     ensures { result ≡ is_integer row.now }
 {
     is_digits(unsigned(row))
@@ -80,7 +80,7 @@ fn in_32_bits(negative: bool, magnitude: u64) -> Option<i32>
 
 /// The value of an integer within 32 signed bits.
 #[tactic(auto, unfolding(crate::specs::Numbers::integer_value))]
-pub(crate) fn integer_value(row: &[u8]) -> Option<i32>
+pub fn integer_value(row: &[u8]) -> Option<i32>
     ensures { result ≡ integer_value row.now }
 {
     in_32_bits(is_negative(row), digits_value(10, unsigned(row)))
@@ -150,7 +150,7 @@ fn is_exponent(bytes: &[u8]) -> bool
 
 /// Whether a row is an integer or a real.
 #[tactic(auto, unfolding(crate::specs::Numbers::is_decimal))]
-pub(crate) fn is_decimal(row: &[u8]) -> bool
+pub fn is_decimal(row: &[u8]) -> bool
     ensures { result ≡ is_decimal row.now }
 {
     let digits = unsigned(row);
@@ -181,7 +181,7 @@ fn are_radix_digits(base: u64, bytes: &[u8]) -> bool
 
 /// Whether a row is a radix number.
 #[tactic(auto, unfolding(crate::specs::Numbers::is_radix))]
-pub(crate) fn is_radix(row: &[u8]) -> bool
+pub fn is_radix(row: &[u8]) -> bool
     ensures { result ≡ is_radix row.now }
 {
     let hash = place_of(row, b'#');

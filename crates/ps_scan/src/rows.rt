@@ -7,11 +7,8 @@ use crate::characters::{closing_length, split_row};
 use crate::numbers::{integer_value, is_decimal, is_integer, is_radix, radix_value};
 use crate::reals::real_value;
 use crate::tokens::{Scan, Token};
-use ps_objects::{ErrorName, Name, NoMemory};
+use ps_objects::{ErrorName, NAME_LIMIT, Name, NoMemory};
 use std::alloc::Global;
-
-/// The bytes of a name, at most.
-pub(crate) const NAME_LIMIT: usize = 127;
 
 /// How a name is written: alone, behind `/`, or behind `//`.
 #[derive(Clone, Copy)]

@@ -7,7 +7,7 @@ ghost use Rattle.ps_scan.specs.Token.{scan_of, string_token, string_at, hex_at, 
 use crate::rows::slash_at;
 use crate::strings::{Limited, STRING_LIMIT, hex_bytes, hex_length, string_body};
 use crate::tokens::{Scan, Token};
-use ps_objects::{ErrorName, Name, NoMemory};
+use ps_objects::{ErrorName, NAME_LIMIT, Name, NoMemory};
 use std::alloc::Global;
 
 fn bad(error: ErrorName, next: u64) -> Scan
@@ -58,7 +58,7 @@ fn hex_at(alloc: Global, place: u64, text: &[u8]) -> Result<Scan, NoMemory>
 }
 
 fn name(alloc: Global, bytes: &[u8], next: u64) -> Result<Scan, NoMemory>
-    requires { length bytes.now ≤ 127 }
+    requires { length bytes.now ≤ NAME_LIMIT }
     ensures { IfOk result (λ scan. scan ≡ scan_of (Ok (Token.Exec bytes.now)) next) }
 {
     let token = Token::Exec(Name::from_bytes(alloc, bytes)?);

@@ -1,7 +1,7 @@
 //! What texts spell.
 ghost use Rattle.std.specs.Prelude.{◌≤◌, length};
 
-use crate::{Scan, Token, next, simple};
+use crate::{Scan, Token, next};
 use std::alloc::Global;
 use std::test::Fail;
 
@@ -146,52 +146,4 @@ fn long_strings_have_a_limit(rt: HostRuntime) -> Result<(), Fail> {
         assert_eq!(rt; found.as_str(), expected);
     }
     Ok(())
-}
-
-#[test]
-fn some_texts_are_simple(rt: HostRuntime) {
-    let simple_texts: [&[u8]; 13] = [
-        b"%!PS",
-        b"a % ( [ 1.5 \n b",
-        b"1#0",
-        b"37#1",
-        b"100#1",
-        b"2#2",
-        b"16#",
-        b"#1",
-        b".",
-        b"1.2.3",
-        b"1e",
-        b"e5",
-        &[b'a'; 127],
-    ];
-    for text in simple_texts {
-        assert!(rt; simple(text));
-    }
-    let others: [&[u8]; 21] = [
-        b"%!PS-Adobe-3.0",
-        b"(a) =",
-        b"a/b",
-        b"<",
-        b">",
-        b"[",
-        b"]",
-        b"{",
-        b"\x04",
-        b"1.",
-        b".5",
-        b"-.5e-3",
-        b"1e400",
-        b"+5E+3",
-        b"16#FF",
-        b"2#1",
-        b"36#z",
-        b"2147483648",
-        b"-2147483649",
-        b"99999999999999999999",
-        &[b'a'; 128],
-    ];
-    for text in others {
-        assert!(rt; !simple(text));
-    }
 }

@@ -3,7 +3,6 @@ ghost use Rattle.std.specs.Prelude.{◌≡◌, ◌+◌, ◌<◌, ◌≤◌, ◌^
 ghost use Rattle.std.specs.Fmt.{signed_decimal};
 ghost use Rattle.ps_scan.specs.Characters.{is_white, closing};
 ghost use Rattle.ps_scan.specs.Token.{MovesOn, token_from, token_at};
-ghost use Rattle.ps_scan.specs.Simple.{is_plain, PlainScan};
 
 use crate::characters::{blank_length, is_delimiter};
 use crate::rows::row_at;
@@ -70,20 +69,15 @@ pub fn next(alloc: Global, text: &[u8], pos: u64) -> Result<Scan, NoMemory>
     requires { pos ≤ length text.now }
     ensures token { IfOk result (λ scan. scan ≡ token_at text.now pos) }
     ensures moves { IfOk result (λ scan. MovesOn pos (length text.now) scan) }
-    ensures plain { IfOk result (λ scan. is_plain (drop pos text.now) ≡ true → PlainScan text.now scan) }
 {
     token_at(alloc, text, pos as usize)
 }
 
-/// In a plain text there are plain tokens alone, and what follows each is plain.
-pub fn simple_scans()
-    ensures { (text : List ℕ) (place : ℕ) → is_plain (drop place text) ≡ true →
-        PlainScan text (token_at text place) }
-{}
-
 /// A printed integer followed by white space is scanned back, and the white space that ends it is taken.
 pub fn printed_integers_scan()
-    ensures { (z : ℤ) (white place : ℕ) (text rest : List ℕ) → neg_ℤ (pos (2 ^ 31)) ≤ℤ z → z <ℤ pos (2 ^ 31) → is_white white ≡ true →
+    ensures { (z : ℤ) (white place : ℕ) (text rest : List ℕ) →
+        neg_ℤ (pos (2 ^ 31)) ≤ℤ z → z <ℤ pos (2 ^ 31) → is_white white ≡ true →
         drop place text ≡ signed_decimal z ++ (white ∷ rest) →
-        token_at text place ≡ Scan.Token (Token.Integer z) (place + length (signed_decimal z) + closing (white ∷ rest)) }
+        token_at text place ≡ Scan.Token (Token.Integer z)
+        (place + length (signed_decimal z) + closing (white ∷ rest)) }
 {}

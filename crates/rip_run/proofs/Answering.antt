@@ -4,7 +4,7 @@ use Rattle.std.specs.Prelude.{nat_lt, not, ◌||◌, option_map, if◌then◌els
 use Rattle.std.proofs.lemmas.Bool.{lt-ltb}
 use Rattle.std.proofs.lemmas.Bool.Decides.{nat_tests}
 use Rattle.rip_ports.specs.Ports.{Appends, AppendsFront}
-use Rattle.ps_scan.specs.Simple.{is_simple}
+use Rattle.rip_run.specs.Simple.{is_simple}
 use Rattle.rip_run.specs.Job.{is_not_yet, is_overflow, is_too_large, is_too_many, plain_result, result_of_command, result_of_read, result_of_run, result_of_sections, status_of, told}
 use Rattle.rip_run.specs.Section.{run_of}
 use Rattle.rip_run.specs.Status.{IsDefined, Writes}

@@ -1,6 +1,7 @@
 -- What a source gives in turn.
-use Rattle.std.proofs.Common.{◌≡◌, ℕ, ◌+◌, ◌<◌, ◌≤◌, ◌↔◌, List, [], ◌++◌, length, take, Option, Some, None, refl, ap, subst, sym, ◌∙◌, append_assoc, length-append, arith}
+use Rattle.std.proofs.Common.{◌≡◌, ℕ, ◌+◌, ◌<◌, ◌≤◌, ◌↔◌, List, [], ◌++◌, length, take, drop, Option, Some, None, refl, ap, subst, sym, ◌∙◌, append_assoc, length-append, arith}
 use Rattle.std.specs.Prelude.{option_map, IfSome}
+use Rattle.std.proofs.Math.Seq.{drop-append_seam}
 use Rattle.rip_ports.specs.Ports.{Gives, GivesNoneAtEnd}
 use Rattle.rip_run.specs.Reading.{IsAtEnd}
 
@@ -22,10 +23,11 @@ none_given None = refl
 none_given (Some bytes) = refl
 
 pub longer : (most : ℕ) (job : List ℕ) (start after : Option (List ℕ)) →
-    Gives job start after → most < length job → IfSome start (λ bytes. most < length bytes)
-longer most job start None g h =
-    let P : Option (List ℕ) → Type 0 = λ s. IfSome s (λ bytes. most < length bytes) in
+    Gives job start after → most < length job → length job ≤ most + 1 → IfSome start (λ bytes. (most < length bytes) × (after ≡ Some (drop (most + 1) bytes)))
+longer most job start None g h k =
+    let P : Option (List ℕ) → Type 0 = λ s. IfSome s (λ bytes. (most < length bytes) × (None ≡ Some (drop (most + 1) bytes))) in
     subst P (sym g) tt
-longer most job start (Some rest) g h =
-    let P : Option (List ℕ) → Type 0 = λ s. IfSome s (λ bytes. most < length bytes) in
-    subst P (sym g) (omega (arith, length-append job rest))
+longer most job start (Some rest) g h k =
+    let P : Option (List ℕ) → Type 0 = λ s. IfSome s (λ bytes. (most < length bytes) × (Some rest ≡ Some (drop (most + 1) bytes))) in
+    let n : length job ≡ most + 1 = omega arith in
+    subst P (sym g) (omega (arith, length-append job rest), ap Some (sym (drop-append_seam job rest) ∙ ap (λ m. drop m (job ++ rest)) n))

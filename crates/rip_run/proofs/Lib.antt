@@ -3,3 +3,5 @@ mod Giving
 mod Pieces
 mod Sinks
 mod Tokens
+mod PlainLemmas
+mod PlainTokens

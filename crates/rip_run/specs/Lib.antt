@@ -5,3 +5,4 @@ pub mod Section
 pub mod Status
 pub mod Texts
 pub mod Words
+pub mod Simple

@@ -7,6 +7,7 @@ mod operands;
 mod operator;
 mod reading;
 mod section;
+mod simple_texts;
 mod status;
 #[cfg(test)]
 mod tests;

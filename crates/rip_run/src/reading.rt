@@ -43,7 +43,7 @@ impl From<AllocError> for Unread {
 /// The most bytes that one call takes from the source.
 const PIECE: usize = 65536;
 
-/// Reads the source to its end, or until it has given more than `most` bytes.
+/// Reads the source to its end, or until it has given one byte more than `most`.
 #[tactic(auto, using(crate::proofs::Giving::none_given, crate::proofs::Giving::longer))]
 pub(crate) fn read_job<S: Source>(
     alloc: Global,
@@ -54,13 +54,14 @@ pub(crate) fn read_job<S: Source>(
     ensures given { IfOk result (λ job. Gives job.items (S.left source.old) (S.left source.new)) }
     ensures ended { IfOk result (λ _. IsAtEnd (S.left source.new)) }
     ensures short { IfOk result (λ job. vec_len job ≤ most) }
-    ensures long { IfErr result (WasTooLong most (S.left source.old)) }
+    ensures long { IfErr result (WasTooLong most (S.left source.old) (S.left source.new)) }
     ensures failed { IfErr result (HasFailed (S.faults source.old) (S.faults source.new)) }
 {
     let mut job = Vec::new(alloc);
     let mut piece = empty_piece(alloc)?;
     while job.len() <= most {
-        if take_piece(source, piece.as_mut_slice(), &mut job)? == 0 {
+        let room = PIECE.min(most + 1 - job.len());
+        if take_piece(source, &mut piece[..room], &mut job)? == 0 {
             return Ok(job);
         }
     }
@@ -69,7 +70,7 @@ pub(crate) fn read_job<S: Source>(
 
 /// Room for the bytes of one call.
 fn empty_piece(alloc: Global) -> Result<Vec<u8>, AllocError>
-    ensures { IfOk result (λ piece. 0 < vec_len piece) }
+    ensures { IfOk result (λ piece. vec_len piece ≡ PIECE) }
 {
     vec![in alloc; 0u8; PIECE]
 }
@@ -86,6 +87,7 @@ fn take_piece<S: Source>(
         OnOk result (Gives job.new.items start (S.left source.new)) }
     ensures ended { IfOk result (λ count. count ≡ 0 → IsAtEnd (S.left source.new)) }
     ensures grown { IfOk result (λ count. vec_len job.new ≡ vec_len job.old + count) }
+    ensures within { IfOk result (λ count. count ≤ length piece.old) }
     ensures counted { S.faults source.old ≤ S.faults source.new }
     ensures failed { IfErr result (IsFailure (S.faults source.old) (S.faults source.new)) }
 {

@@ -1,3 +1,4 @@
+use crate::simple_texts::simple;
 use crate::{Status, Word, rip_plain};
 use copy_lists::NoMemory;
 use rip_ports::{Failed, MemSink, MemSource, Source};
@@ -183,12 +184,13 @@ fn splits_jobs(rt: HostRuntime) -> Result<(), NoMemory> {
 #[test]
 fn refuses_large_jobs(rt: HostRuntime) -> Result<(), NoMemory> {
     let alloc = rt.alloc();
-    for (left, status, back) in [
-        (268_435_456, Status::Done { reruns: 0 }, DONE),
+    for (left, status, back, unread) in [
+        (268_435_456, Status::Done { reruns: 0 }, DONE, 0),
         (
-            268_435_457,
+            268_600_000,
             Status::TooLarge,
             "%%[ job refused: too large ]%%\n",
+            164_543,
         ),
     ] {
         let mut pages = MemSink::new(alloc, 1000, Vec::new(alloc))?;
@@ -206,6 +208,55 @@ fn refuses_large_jobs(rt: HostRuntime) -> Result<(), NoMemory> {
         );
         assert_eq!(rt; answer, status);
         assert_eq!(rt; sink.bytes(), back.as_bytes());
+        assert_eq!(rt; source.left, unread);
     }
     Ok(())
+}
+
+#[test]
+fn some_texts_are_simple(rt: HostRuntime) {
+    let simple_texts: [&[u8]; 13] = [
+        b"%!PS",
+        b"a % ( [ 1.5 \n b",
+        b"1#0",
+        b"37#1",
+        b"100#1",
+        b"2#2",
+        b"16#",
+        b"#1",
+        b".",
+        b"1.2.3",
+        b"1e",
+        b"e5",
+        &[b'a'; 127],
+    ];
+    for text in simple_texts {
+        assert!(rt; simple(text));
+    }
+    let others: [&[u8]; 21] = [
+        b"%!PS-Adobe-3.0",
+        b"(a) =",
+        b"a/b",
+        b"<",
+        b">",
+        b"[",
+        b"]",
+        b"{",
+        b"\x04",
+        b"1.",
+        b".5",
+        b"-.5e-3",
+        b"1e400",
+        b"+5E+3",
+        b"16#FF",
+        b"2#1",
+        b"36#z",
+        b"2147483648",
+        b"-2147483649",
+        b"99999999999999999999",
+        &[b'a'; 128],
+    ];
+    for text in others {
+        assert!(rt; !simple(text));
+    }
 }

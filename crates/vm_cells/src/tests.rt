@@ -121,7 +121,7 @@ fn is_later(name: SaveName, other: SaveName) -> bool
         count: name.count,
         space: Space::Local,
     };
-    cell.is_newer_than(other)
+    cell.comes_after(other)
 }
 
 /// Whether a save of this name is later than all that a local part keeps.

@@ -1,5 +1,5 @@
 -- Maps from cells, by the entries of a `BTreeMap`.
-use Rattle.std.proofs.Common.{◌≡◌, Bool, true, false, cond, List, Option, Some, None, IsSome, refl, ap, sym, subst, ◌∙◌, ◌<◌, inl, inr, arith, true≢false}
+use Rattle.std.proofs.Common.{◌≡◌, Bool, true, false, cond, List, Option, Some, None, IsSome, refl, ap, sym, subst, ◌∙◌, ◌<◌, inl, inr, ◌⊎◌, arith, true≢false}
 use Rattle.std.specs.declared.cmp.Ordering.{Ordering}
 use Rattle.std.specs.declared.cmp.Ordering.TheVariants.{Less, Equal, Greater}
 use Rattle.std.specs.Ordering.{MatchOrdering, nat_cmp, is_eq, is_lt, is_gt, ordering_then}
@@ -9,13 +9,16 @@ use Rattle.std.specs.BTreeMap.{BTreeMap, is_at, Updates, WritesThrough, IsUpperB
 use Rattle.std.specs.FinMap.{FinMap, from_entries, get, insert, remove, retain_keys, get-remove, get-retain_keys, same_map}
 use Rattle.ps_objects.specs.declared.cell.Cell.{Cell}
 use Rattle.ps_objects.specs.declared.cell.SaveName.{SaveName}
-use Rattle.ps_objects.specs.Cell.{IsNewer}
 use Rattle.ps_objects.specs.contracts.cell.SpaceOrd.TheImpl as space_order
 use Rattle.ps_memory.specs.Order.{cell_cmp}
 use Rattle.ps_memory.specs.Memory.{put_cell}
 use Rattle.ps_memory.proofs.Order.{cells_total, cells_antisymmetric, cell_is}
-use Rattle.vm_content.specs.Newer.{comes_after}
+use Rattle.ps_objects.specs.Cell.{comes_after}
 use Rattle.vm_content.proofs.Keyed.{get_entries, one_inserted, one_removed}
+
+-- made in a later section, or later in the section of the save
+abbrev pub IsNewer : Cell → SaveName → Type 0
+IsNewer cell save = (save.section < cell.section) ⊎ ((cell.section ≡ save.section) × (save.count < cell.count))
 
 -- a cell that comes after the save, seen as a test
 pub newer_after : (c : Cell) (s : SaveName) → IsNewer c s → comes_after c s ≡ true

@@ -1,6 +1,5 @@
 pub mod Content
 pub mod Seen
 pub mod Coding
-pub mod Newer
 pub mod Back
 pub mod Next

@@ -69,7 +69,7 @@ impl OpenSave {
         ensures same { as_saved self.new (from_entries cells.now.entries) ≡ as_saved self.old (from_entries cells.now.entries) }
         ensures noted { OnOk result ((v : Value) → as_saved self.new (put_held (spot_of at.now) v (from_entries cells.now.entries)) ≡ as_saved self.old (from_entries cells.now.entries)) }
     {
-        if is_newer(cell, self.name) {
+        if cell.is_newer_than(self.name) {
             return Ok(());
         }
         if self.has(at) {
@@ -97,16 +97,6 @@ impl OpenSave {
     {
         self.before.insert(at, value)?;
         Ok(())
-    }
-}
-
-/// Whether a cell is local and was made after the save.
-fn is_newer(cell: Cell, save: SaveName) -> bool
-    ensures { result ≡ newer cell save }
-{
-    match cell.space {
-        Space::Local => cell.is_newer_than(save),
-        Space::Global => false,
     }
 }
 

@@ -211,7 +211,7 @@ fn drop_newer(
     ensures strings { from_entries {R = cell_cmp} strings.new.entries ≡ kept_from save (from_entries {R = cell_cmp} strings.old.entries) }
 {
     while let Some((last, _)) = cells.last_key_value() {
-        if !last.is_newer_than(save) {
+        if !last.comes_after(save) {
             break;
         }
         let cell = *last;

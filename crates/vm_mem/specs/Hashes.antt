@@ -1,11 +1,8 @@
 -- The hash of a key, by which a memory may find an entry.
-use Rattle.std.specs.Prelude.{ℕ, List}
+use Rattle.std.specs.Prelude.{ℕ}
+use Rattle.ps_objects.specs.Hash.{name_hash}
 use Rattle.ps_objects.specs.declared.key.Key.{Key}
 use Rattle.ps_objects.specs.declared.key.Key.TheVariants as key
-
--- the hash of a name
-abbrev pub name_hash : List ℕ → ℕ
-name_hash n = 0
 
 -- a name's; other keys have none
 abbrev pub key_hash : Key → ℕ

@@ -24,7 +24,7 @@ pub trait Base: Mem + Sized {
 
     /// The memory with which a job starts, on paper of the settings' size in pixels.
     fn start(alloc: Global, settings: &Settings) -> Result<Self, NoMemory>
-        ensures { IfOk result (λ memory. (Self.log memory).view ≡ start_memory settings.now.width settings.now.height) };
+        ensures { IfOk result (λ memory. (Self.log memory).view ≡ start_memory settings.now) };
 
     /// A memory with the same values and kept copies.
     fn copy(&self) -> Result<Self, NoMemory>

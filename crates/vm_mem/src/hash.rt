@@ -8,6 +8,8 @@ use ps_objects::Key;
 pub fn hash_of(key: &Key) -> u64
     ensures { result ≡ key_hash key.now }
 {
-    let _ = key;
-    0
+    match key {
+        Key::Name(name) => name.hash(),
+        _ => 0,
+    }
 }

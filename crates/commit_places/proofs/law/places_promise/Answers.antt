@@ -16,3 +16,12 @@ returns-clause-few g c = λ z s k. promise.few _ z s k
 
 pub returns-clause-over : goal.returns-clause-over
 returns-clause-over g c = λ z s k seat hand at is. promise.over _ z s k seat hand at is
+
+pub returns-clause-drawn_once : goal.returns-clause-drawn_once
+returns-clause-drawn_once g c = λ z s k. promise.drawn_once _ z s k
+
+pub returns-clause-finished_once : goal.returns-clause-finished_once
+returns-clause-finished_once g c = λ z s k. promise.finished_once _ z s k
+
+pub returns-clause-by_drawer : goal.returns-clause-by_drawer
+returns-clause-by_drawer g c = λ z s k. promise.by_drawer _ z s k

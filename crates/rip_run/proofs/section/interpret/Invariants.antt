@@ -1,5 +1,5 @@
 use Rattle.std.proofs.Common.{◌≡◌, ◌≤◌, drop, length, true}
-use Rattle.ps_scan.specs.Simple.{is_plain}
+use Rattle.rip_run.specs.Simple.{is_plain}
 use Rattle.rip_run.specs.Section.{run_of}
 use Rattle.rip_run.proofs.Tokens.{run_left}
 use Rattle.rip_run.proofs.section.interpret.Given as goal
