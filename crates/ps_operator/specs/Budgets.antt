@@ -45,4 +45,5 @@ storable c k = if is_global c && is_local (cell_named k) then Err InvalidAccess 
 -- an object under a key in a dictionary
 abbrev pub storable_entry : Cell → Option Cell → Kind → Result (Unit {0}) ErrorName
 storable_entry d key k =
-    if is_barred d || (is_global d && (is_local key || is_local (cell_named k))) then Err InvalidAccess else Ok tt
+    if is_barred d || (is_global d && (is_local key || is_local (cell_named k)))
+    then Err InvalidAccess else Ok tt

@@ -6,6 +6,7 @@ use Rattle.ps_objects.specs.declared.object.Kind.{Kind}
 use Rattle.ps_objects.specs.declared.object.Kind.TheVariants as kind
 use Rattle.ps_objects.specs.declared.object.Object.{Object}
 
+-- a mark
 abbrev pub is_mark : Kind → Bool
 is_mark kind.Mark = true
 is_mark _ = false

@@ -19,12 +19,15 @@ abbrev pub cell_newer : SaveName → Option Cell → Bool
 cell_newer q None = false
 cell_newer q (Some c) = newer c q
 
+-- the cell that an object names
 abbrev pub object_newer : SaveName → Object → Bool
 object_newer q x = cell_newer q (cell_named x.kind)
 
+-- the key or the value of a pair
 abbrev pub pair_newer : SaveName → Pair → Bool
 pair_newer q p = cell_newer q (cell_of_key p.key) || object_newer q p.value
 
+-- the procedure of a show
 abbrev pub form_newer : SaveName → ShowForm → Bool
 form_newer q (form.Kshow p) = object_newer q p
 form_newer q _ = false
@@ -43,7 +46,8 @@ frame_newer q frame.Stopped = false
 frame_newer q (frame.Show r) = object_newer q r.string || form_newer q r.form
 frame_newer q (frame.Image r) = object_newer q r.procedure
 frame_newer q (frame.Walk w) =
-    object_newer q w.move_to || object_newer q w.line_to || object_newer q w.curve_to || object_newer q w.close_path
+    object_newer q w.move_to || object_newer q w.line_to
+    || object_newer q w.curve_to || object_newer q w.close_path
 
 -- the marks of the saves that were opened before this one
 abbrev pub marks_before : SaveName → List SaveMark → List SaveMark

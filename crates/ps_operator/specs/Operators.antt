@@ -6,6 +6,7 @@ use Rattle.ps_memory.specs.Tree.{fail}
 use Rattle.ps_operator.specs.Tree.{Ask}
 use Rattle.ps_operator.specs.Lawful.{IsLawful}
 
+-- pairs of a place and a tree
 abbrev pub Operators : Type 0
 Operators = List (ℕ × (State → Ask))
 

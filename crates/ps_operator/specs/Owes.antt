@@ -79,11 +79,13 @@ Finds t old x log = reads t old ≡ record { outcome = Ok x; log = log }
 
 -- ---- what the machine is told of a result
 
+-- an act, or that the operator failed
 abbrev pub told : Result Act Refusal → Result Act NoMemory
 told (Ok a) = Ok a
 told (Err (refusal.Error e)) = Ok (act.Fail e)
 told (Err refusal.NoMemory) = Err (record {})
 
+-- that the operator is done, or that it failed
 abbrev pub told_done : Result (Unit {0}) Refusal → Result Act NoMemory
 told_done (Ok u) = Ok act.Done
 told_done (Err (refusal.Error e)) = Ok (act.Fail e)

@@ -49,4 +49,7 @@ continued below r k s = elim r.outcome [
 
 -- what is found by going on with what was found
 abbrev pub went_on : {A B : Type 0} → Reading A → (A → Application B) → Reading B
-went_on r k = elim r.outcome [ Ok x ↦ reads (k x) r.log | Err e ↦ record { outcome = Err e; log = r.log } ]
+went_on r k = elim r.outcome [
+  | Ok x ↦ reads (k x) r.log
+  | Err e ↦ record { outcome = Err e; log = r.log }
+]

@@ -20,12 +20,15 @@ computed f g (number.Integer a) (number.Integer b) =
     integer_or (f a b) (defined (g (as_real (number.Integer a)) (as_real (number.Integer b))))
 computed f g a b = defined (g (as_real a) (as_real b))
 
+-- a + b
 abbrev pub sum : Number → Number → Result Number ErrorName
 sum a b = computed ◌+ℤ◌ sum_of a b
 
+-- a - b
 abbrev pub difference : Number → Number → Result Number ErrorName
 difference a b = computed ◌-ℤ◌ difference_of a b
 
+-- a·b
 abbrev pub product : Number → Number → Result Number ErrorName
 product a b = computed ◌*ℤ◌ product_of a b
 
@@ -43,20 +46,26 @@ whole_quotient a b =
 abbrev pub remainder : ℤ → ℤ → Result ℤ ErrorName
 remainder a b = if int_eq b (pos 0) then Err UndefinedResult else Ok (int_rem a b)
 
+-- number number add number
 abbrev pub add : State → Ask
 add = of_two sum
 
+-- number number sub number
 abbrev pub sub : State → Ask
 sub = of_two difference
 
+-- number number mul number
 abbrev pub mul : State → Ask
 mul = of_two product
 
+-- number number div real
 abbrev pub div : State → Ask
 div = of_two quotient
 
+-- integer integer idiv integer
 abbrev pub idiv : State → Ask
 idiv = of_integers whole_quotient
 
+-- integer integer mod integer
 abbrev pub mod_ : State → Ask
 mod_ = of_integers remainder

@@ -20,9 +20,11 @@ joined f g (kind.Boolean a) (kind.Boolean b) = Ok (kind.Boolean (f a b))
 joined f g (kind.Integer a) (kind.Integer b) = Ok (kind.Integer (g a b))
 joined f g _ _ = Err TypeCheck
 
+-- both
 abbrev pub conjunction : Kind → Kind → Result Kind ErrorName
 conjunction x y = joined ◌&&◌ (int_bit_and w32) x y
 
+-- one of them, or both
 abbrev pub disjunction : Kind → Kind → Result Kind ErrorName
 disjunction x y = joined ◌||◌ (int_bit_or w32) x y
 
@@ -39,12 +41,15 @@ of_kinds f s =
     read (f x.kind y.kind) (λ k.
     leaves s (literal k ∷ drop 2 (ops s))))))
 
+-- boolean boolean and boolean, integer integer and integer
 abbrev pub and : State → Ask
 and = of_kinds conjunction
 
+-- boolean boolean or boolean, integer integer or integer
 abbrev pub or : State → Ask
 or = of_kinds disjunction
 
+-- boolean boolean xor boolean, integer integer xor integer
 abbrev pub xor : State → Ask
 xor = of_kinds exclusion
 
@@ -54,6 +59,7 @@ opposite (kind.Boolean b) = Ok (kind.Boolean (not b))
 opposite (kind.Integer n) = Ok (kind.Integer (int_bit_not w32 n))
 opposite _ = Err TypeCheck
 
+-- boolean not boolean, integer not integer
 abbrev pub not_ : State → Ask
 not_ s =
     read (needed 1 (ops s)) (λ _.
@@ -74,5 +80,6 @@ abbrev pub shifted : ℤ → ℤ → ℤ
 shifted n (pos k) = cast_signed w32 (left_by (cast_unsigned w32 n) k)
 shifted n (negsuc k) = cast_signed w32 (right_by (cast_unsigned w32 n) (k + 1))
 
+-- integer places bitshift integer
 abbrev pub bitshift : State → Ask
 bitshift = of_integers (λ n by. Ok (shifted n by))

@@ -66,6 +66,7 @@ same_text x y =
     look_then (text_of y.kind) (λ v.
     look_then (text_of x.kind) (λ u. found (pointwise nat_eq u v)))))
 
+-- texts by their bytes, all else as objects that are no texts
 abbrev pub equal : Object → Object → Application Bool
 equal x y = cond (is_text x.kind && is_text y.kind) (same_text x y) (found (same x.kind y.kind))
 
@@ -78,14 +79,17 @@ equality f s =
     look_then (equal x y) (λ b.
     leaves s (literal (kind.Boolean (f b)) ∷ drop 2 (ops s))))))
 
+-- any any eq boolean
 abbrev pub eq : State → Ask
 eq = equality (λ b. b)
 
+-- any any ne boolean
 abbrev pub ne : State → Ask
 ne = equality not
 
 -- ---- order
 
+-- a string
 abbrev pub is_string : Kind → Bool
 is_string (kind.Str a) = true
 is_string _ = false
@@ -100,6 +104,7 @@ string_order xs =
     look_then (bytes_of b) (λ v.
     look_then (bytes_of a) (λ u. found (slice_cmp nat_cmp u v)))))))
 
+-- the order of two values
 abbrev pub values_order : Number → Number → Ordering
 values_order a b = int_cmp (as_real a).count (as_real b).count
 
@@ -121,14 +126,18 @@ comparison test s =
     look_then (order (ops s)) (λ o.
     leaves s (literal (kind.Boolean (test o)) ∷ drop 2 (ops s))))
 
+-- number number gt boolean, string string gt boolean
 abbrev pub gt : State → Ask
 gt = comparison is_gt
 
+-- number number ge boolean, string string ge boolean
 abbrev pub ge : State → Ask
 ge = comparison is_ge
 
+-- number number lt boolean, string string lt boolean
 abbrev pub lt : State → Ask
 lt = comparison is_lt
 
+-- number number le boolean, string string le boolean
 abbrev pub le : State → Ask
 le = comparison is_le

@@ -18,9 +18,11 @@ root a =
     if int_le (pos 0) (as_real a).count
     then Ok (number.Real (record { count = root_of (as_real a).count })) else Err RangeCheck
 
+-- the sine of an angle in degrees
 abbrev pub sine : Number → Result Number ErrorName
 sine a = Ok (number.Real (record { count = sine_of (as_real a).count }))
 
+-- the cosine of an angle in degrees
 abbrev pub cosine : Number → Result Number ErrorName
 cosine a = Ok (number.Real (record { count = cosine_of (as_real a).count }))
 
@@ -28,14 +30,18 @@ cosine a = Ok (number.Real (record { count = cosine_of (as_real a).count }))
 abbrev pub angle : Number → Number → Result Number ErrorName
 angle num den = defined (arc_tangent (as_real num).count (as_real den).count)
 
+-- number sqrt real
 abbrev pub sqrt : State → Ask
 sqrt = of_one root
 
+-- angle sin real
 abbrev pub sin : State → Ask
 sin = of_one sine
 
+-- angle cos real
 abbrev pub cos : State → Ask
 cos = of_one cosine
 
+-- numerator denominator atan angle
 abbrev pub atan : State → Ask
 atan = of_two angle

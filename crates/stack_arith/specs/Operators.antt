@@ -26,7 +26,8 @@ abbrev pub number_operators : Operators
 number_operators =
     (at.ADD, add) ∷ (at.SUB, sub) ∷ (at.MUL, mul) ∷ (at.DIV, div) ∷ (at.IDIV, idiv) ∷ (at.MOD, mod_)
     ∷ (at.ABS, abs) ∷ (at.NEG, neg) ∷ (at.CEILING, ceiling) ∷ (at.FLOOR, floor) ∷ (at.ROUND, round)
-    ∷ (at.TRUNCATE, truncate) ∷ (at.SQRT, sqrt) ∷ (at.SIN, sin) ∷ (at.COS, cos) ∷ (at.ATAN, atan) ∷ []
+    ∷ (at.TRUNCATE, truncate) ∷ (at.SQRT, sqrt) ∷ (at.SIN, sin) ∷ (at.COS, cos)
+    ∷ (at.ATAN, atan) ∷ []
 
 -- random numbers, comparisons and bits
 abbrev pub bit_operators : Operators
@@ -35,6 +36,7 @@ bit_operators =
     ∷ (at.GT, gt) ∷ (at.GE, ge) ∷ (at.LT, lt) ∷ (at.LE, le) ∷ (at.AND, and) ∷ (at.OR, or)
     ∷ (at.XOR, xor) ∷ (at.NOT, not_) ∷ (at.BITSHIFT, bitshift) ∷ []
 
+-- all of them
 abbrev pub operators : Operators
 operators = stack_operators ++ number_operators ++ bit_operators
 

@@ -24,6 +24,7 @@ rand s =
     done (puts loc.Rand (value.Rand (next_rand x)) ∷ [])
     (quiet (with_ops s (literal (kind.Integer (pos (next_rand x))) ∷ ops s)))))
 
+-- 1 in the place of 0
 abbrev pub or_one : ℕ → ℕ
 or_one n = if nat_eq n 0 then 1 else n
 

@@ -35,15 +35,19 @@ nearest_to_count z = floor_of_count (z +ℤ pos (2 ^ 23))
 abbrev pub whole_part : ℤ → ℤ
 whole_part z = int_div z (pos 16777216)
 
+-- the least whole number not below it
 abbrev pub rounded_up : Number → Result Number ErrorName
 rounded_up a = rounded ceiling_of_count a
 
+-- the greatest whole number not above it
 abbrev pub rounded_down : Number → Result Number ErrorName
 rounded_down a = rounded floor_of_count a
 
+-- the nearest whole number
 abbrev pub rounded_to_nearest : Number → Result Number ErrorName
 rounded_to_nearest a = rounded nearest_to_count a
 
+-- the number without its fraction
 abbrev pub without_fraction : Number → Result Number ErrorName
 without_fraction a = rounded whole_part a
 
@@ -51,25 +55,32 @@ without_fraction a = rounded whole_part a
 abbrev pub magnitude : Number → Result Number ErrorName
 magnitude a = changed (λ z. pos (unsigned_abs z)) a
 
+-- its negative
 abbrev pub negative : Number → Result Number ErrorName
 negative a = changed neg_ℤ a
 
 -- ---- the operators
 
+-- number abs number
 abbrev pub abs : State → Ask
 abs = of_one magnitude
 
+-- number neg number
 abbrev pub neg : State → Ask
 neg = of_one negative
 
+-- number ceiling number
 abbrev pub ceiling : State → Ask
 ceiling = of_one rounded_up
 
+-- number floor number
 abbrev pub floor : State → Ask
 floor = of_one rounded_down
 
+-- number round number
 abbrev pub round : State → Ask
 round = of_one rounded_to_nearest
 
+-- number truncate number
 abbrev pub truncate : State → Ask
 truncate = of_one without_fraction
