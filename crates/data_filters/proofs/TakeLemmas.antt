@@ -1,6 +1,6 @@
 -- Taking bytes and codes from a source.
 use Rattle.std.proofs.Common.{◌≡◌, ℕ, zero, suc, ◌+◌, ◌-◌, ◌<◌, ◌≤◌, Bool, true, false, List, [], ◌∷◌, length, drop, get_or, refl, sym, ap, subst, ◌∙◌, arith, ⊎_elim, Option, Some, None, add-one, drop_of_length-le}
-use Rattle.std.specs.Prelude.{slice_get, slice_set, slice_index, nat_lt, cond}
+use Rattle.std.specs.Prelude.{slice_get, slice_set, slice_index, nat_lt}
 use Rattle.std.proofs.lemmas.Bool.{cases_Bool, cond-true, cond-false, lt-ltb, ltb-true}
 use Rattle.std.proofs.Math.Seq.{drop-cons}
 use Rattle.filter_tower.specs.declared.tower.FilterKind.{FilterKind}
@@ -275,7 +275,7 @@ text_byte_taken text kind left after old new lt more e is =
     let next : Reading = record old { place = old.place + 1 } in
     let n : ℕ = length_taken kind (rest text the_text next) (left_behind kind b left) in
     let count : length_taken kind (rest text the_text old) left ≡ suc n =
-        let c = ap (λ x. length_taken kind x left) (text_left text old lt) ∙ length_behind kind b (rest text the_text next) left (sym more) in omega (arith, c)
+    let c = ap (λ x. length_taken kind x left) (text_left text old lt) ∙ length_behind kind b (rest text the_text next) left (sym more) in omega (arith, c)
     in
     ap (λ x. taking (length_taken kind (rest text the_text new) x) (give text the_text) new) e
     ∙ ap (λ r. taking (length_taken kind (rest text the_text r) (left_behind kind b left)) (give text the_text) r) is
@@ -298,8 +298,8 @@ pending_has text layers source k now standing tower h e at some =
     let lt : standing.from < length standing.code = ltb-true standing.from (length standing.code) (sym some) in
     let bytes = drop-cons standing.code standing.from 0 lt in
     sym (ap (λ s. has_byte (rest text s now)) (source_up layers source k tower h e)
-        ∙ ap has_byte (rest_over text k (kind_at layers k) (source_below layers k) now standing (standing_is now k standing at))
-        ∙ ap (λ xs. has_byte (onto xs (behind_code (kind_at layers k) standing (rest text (source_below layers k) now)))) bytes)
+    ∙ ap has_byte (rest_over text k (kind_at layers k) (source_below layers k) now standing (standing_is now k standing at))
+    ∙ ap (λ xs. has_byte (onto xs (behind_code (kind_at layers k) standing (rest text (source_below layers k) now)))) bytes)
 
 -- what a layer over the text takes
 pub taken_from_text : (text : List ℕ) (layers : List FilterLayer) (k : ℕ) (one other : FilterLayer) (taken : Option ℕ) (old new : Reading) → k < length layers

@@ -129,4 +129,4 @@ take_code-returns-in-Wrong-clause-given t c =
 pub take-returns-then-below-eq0-clause-taken : goal.take-returns-then-below-eq0-clause-taken
 take-returns-then-below-eq0-clause-taken t c =
     taken_from_text c.args.text.now c.args.layers.now c.args.layer c.index-layers-layer.result c.index-layers-layer-then-below-eq0.result c.args.taken c.args.now.now c.take_text.new.now
-        c.requires.stands c.if-below-eq0.true c.take_text.ensures.taken
+    c.requires.stands c.if-below-eq0.true c.take_text.ensures.taken
