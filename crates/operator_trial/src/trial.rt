@@ -51,9 +51,7 @@ fn null() -> Object
 }
 
 fn empty_dash() -> Object
-    ensures {
-        result ≡ literal (kind.Array (record { cell = empty_dash; start = 0; len = 0 }) false)
-    }
+    ensures { result ≡ literal (kind.Array (record { cell = empty_dash; start = 0; len = 0 }) false) }
 {
     Object {
         kind: Kind::Array {

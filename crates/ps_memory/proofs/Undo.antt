@@ -104,7 +104,6 @@ stands_fresh c sh M d h = go (is_global c) h
 
 -- ---- a restore after many writes
 
-
 -- the copy under a name that the writes opened: each of its cells still stands
 record Opened (s : SaveName) (M : Memory) : Type 0 where
   copy : CellMap

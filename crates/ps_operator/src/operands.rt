@@ -54,10 +54,8 @@ pub fn push_copy(operands: &mut Objects, depth: usize) -> Result<(), NoMemory>
 
 #[inline]
 fn push(operands: &mut Objects, kind: Kind, exec: bool, access: Access) -> Result<(), NoMemory>
-    ensures {
-        OnOk result
-            (operands.new ≡ record { kind = kind; exec = exec; access = access } ∷ operands.old)
-    }
+    ensures { OnOk result
+        (operands.new ≡ record { kind = kind; exec = exec; access = access } ∷ operands.old) }
 {
     operands.push(Object { kind, exec, access })
 }

@@ -11,8 +11,7 @@ ghost use Rattle.vm_start.specs.StartMaps.{with_entries, operators_between, syst
 
 use ps_names::places::{FIRST_DEFAULT_ENTRY, OPERATOR_COUNT};
 use ps_objects::{
-    Access, Cell, Interval, Key, Kind, Name, NoMemory, Object, Op,
-    Shape, Space, op_name,
+    Access, Cell, Interval, Key, Kind, Name, NoMemory, Object, Op, Shape, Space, op_name,
 };
 use std::alloc::Global;
 use std::collections::BTreeMap;
