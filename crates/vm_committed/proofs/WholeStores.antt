@@ -13,6 +13,7 @@ use Rattle.ps_memory.proofs.Keeping.{same_maps}
 use Rattle.vm_content.proofs.Cells.{cell_written}
 use Rattle.vm_journal.specs.Part.{Part}
 use Rattle.ps_memory.specs.Holders.{HaveHolders}
+use Rattle.vm_content.specs.Maps.{cells_of}
 
 module _ {X : Type 0} where
   self_mapped : (o : Option X) → mapped (λ x. x) o ≡ o
@@ -28,7 +29,7 @@ module _ {X : Type 0} where
 
   -- what is written back as it was changes nothing
   pub cell_kept : (m n : BTreeMap Cell X) (k : Cell) (x y : X) → Some x ≡ lookup (is_at (cell_cmp k)) m.entries → y ≡ x
-      → WritesThrough cell_cmp (cell_cmp k) m y n → from_entries {R = cell_cmp} n.entries ≡ from_entries m.entries
+      → WritesThrough cell_cmp (cell_cmp k) m y n → cells_of n ≡ from_entries m.entries
   cell_kept m n k x y was is h = cell_written m n k x y (λ x. x) was is h ∙ put_itself k (from_entries m.entries)
 
   -- a cell is missing after a change at one cell only where it was

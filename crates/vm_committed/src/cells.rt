@@ -8,6 +8,7 @@ ghost use Rattle.ps_memory.specs.Memory.{is_global, newer, part, with_part, valu
 ghost use Rattle.vm_content.specs.Content.{slot_in};
 ghost use Rattle.ps_memory.specs.Holders.{HaveHolders};
 ghost use Rattle.vm_journal.specs.Part.{HaveCells, kept_from};
+ghost use Rattle.vm_content.specs.Maps.{cells_of};
 
 use crate::page::Page;
 use ps_objects::{Cell, Loc, NoMemory, SaveName, Space, Value};
@@ -32,6 +33,7 @@ pub struct Cells {
 }
 
 impl Model for Cells {
+    ghost use Rattle.vm_content.specs.Maps.{cells_of};
     ghost use Rattle.std.specs.FinMap.{from_entries};
     ghost use Rattle.ps_memory.specs.Order.{cell_cmp};
     ghost use Rattle.ps_memory.specs.Memory.{Memory};
@@ -42,9 +44,9 @@ impl Model for Cells {
 
     ghost coded = { memory_code };
 
-    ghost view = { λ m. record { locals = m.locals.cells; globals = from_entries {R = cell_cmp} m.globals.entries; strings = from_entries {R = cell_cmp} m.strings.entries; rand = m.rand; page = page_of m.page; kept = m.locals.kept } };
+    ghost view = { λ m. record { locals = m.locals.cells; globals = cells_of m.globals; strings = cells_of m.strings; rand = m.rand; page = page_of m.page; kept = m.locals.kept } };
 
-    ghost invariant = { λ m. HaveHolders (record { locals = m.locals.cells; globals = from_entries {R = cell_cmp} m.globals.entries; strings = from_entries {R = cell_cmp} m.strings.entries; rand = m.rand; page = page_of m.page; kept = m.locals.kept }) };
+    ghost invariant = { λ m. HaveHolders (record { locals = m.locals.cells; globals = cells_of m.globals; strings = cells_of m.strings; rand = m.rand; page = page_of m.page; kept = m.locals.kept }) };
 }
 
 impl Cells {
@@ -201,14 +203,14 @@ fn insert_string(
     content: Content,
     bytes: Bytes,
 ) -> Result<(), NoMemory>
-    requires unused { get (from_entries {R = cell_cmp} strings.old.entries) cell ≡ None }
+    requires unused { get (cells_of strings.old) cell ≡ None }
     requires newest { is_global cell ≡ false → AllByRecursion (λ k. newer cell k.0 ≡ true) locals.old.kept }
     ensures locals { OnOk result (locals.new ≡ record { cells = cond (is_global cell) locals.old.cells (insert locals.old.cells cell content); kept = locals.old.kept }) }
-    ensures globals { OnOk result (from_entries {R = cell_cmp} globals.new.entries ≡ cond (is_global cell) (insert (from_entries {R = cell_cmp} globals.old.entries) cell content) (from_entries {R = cell_cmp} globals.old.entries)) }
-    ensures strings { OnOk result (from_entries {R = cell_cmp} strings.new.entries ≡ insert (from_entries {R = cell_cmp} strings.old.entries) cell bytes) }
+    ensures globals { OnOk result (cells_of globals.new ≡ cond (is_global cell) (insert (cells_of globals.old) cell content) (cells_of globals.old)) }
+    ensures strings { OnOk result (cells_of strings.new ≡ insert (cells_of strings.old) cell bytes) }
     ensures same_locals { OnErr result (locals.new ≡ locals.old) }
-    ensures same_globals { OnErr result (from_entries {R = cell_cmp} globals.new.entries ≡ from_entries {R = cell_cmp} globals.old.entries) }
-    ensures same_strings { OnErr result (from_entries {R = cell_cmp} strings.new.entries ≡ from_entries {R = cell_cmp} strings.old.entries) }
+    ensures same_globals { OnErr result (cells_of globals.new ≡ cells_of globals.old) }
+    ensures same_strings { OnErr result (cells_of strings.new ≡ cells_of strings.old) }
 {
     strings.insert(cell, bytes)?;
     match insert_cell(locals, globals, cell, content) {
@@ -229,9 +231,9 @@ fn insert_cell(
 ) -> Result<(), NoMemory>
     requires newest { is_global cell ≡ false → AllByRecursion (λ k. newer cell k.0 ≡ true) locals.old.kept }
     ensures locals { OnOk result (locals.new ≡ record { cells = cond (is_global cell) locals.old.cells (insert locals.old.cells cell content); kept = locals.old.kept }) }
-    ensures globals { OnOk result (from_entries {R = cell_cmp} globals.new.entries ≡ cond (is_global cell) (insert (from_entries {R = cell_cmp} globals.old.entries) cell content) (from_entries {R = cell_cmp} globals.old.entries)) }
+    ensures globals { OnOk result (cells_of globals.new ≡ cond (is_global cell) (insert (cells_of globals.old) cell content) (cells_of globals.old)) }
     ensures same_locals { OnErr result (locals.new ≡ locals.old) }
-    ensures same_globals { OnErr result (from_entries {R = cell_cmp} globals.new.entries ≡ from_entries {R = cell_cmp} globals.old.entries) }
+    ensures same_globals { OnErr result (cells_of globals.new ≡ cells_of globals.old) }
 {
     match cell.space {
         Space::Local => locals.insert(cell, content)?,
@@ -247,8 +249,8 @@ fn insert_in(
     cell: Cell,
     content: Content,
 ) -> Result<(), NoMemory>
-    ensures ok { OnOk result (from_entries {R = cell_cmp} cells.new.entries ≡ insert (from_entries {R = cell_cmp} cells.old.entries) cell content) }
-    ensures err { OnErr result (from_entries {R = cell_cmp} cells.new.entries ≡ from_entries {R = cell_cmp} cells.old.entries) }
+    ensures ok { OnOk result (cells_of cells.new ≡ insert (cells_of cells.old) cell content) }
+    ensures err { OnErr result (cells_of cells.new ≡ cells_of cells.old) }
 {
     cells.insert(cell, content)?;
     Ok(())
@@ -262,8 +264,8 @@ fn put_in(
     at: &Loc,
     value: Value,
 ) -> Result<(), NoMemory>
-    ensures ok { OnOk result (from_entries {R = cell_cmp} cells.new.entries ≡ put_cell cell (put_content (slot_in at.now) value) (from_entries {R = cell_cmp} cells.old.entries)) }
-    ensures err { OnErr result (from_entries {R = cell_cmp} cells.new.entries ≡ from_entries {R = cell_cmp} cells.old.entries) }
+    ensures ok { OnOk result (cells_of cells.new ≡ put_cell cell (put_content (slot_in at.now) value) (cells_of cells.old)) }
+    ensures err { OnErr result (cells_of cells.new ≡ cells_of cells.old) }
 {
     match cells.get_mut(&cell) {
         Some(content) => content.put(at, value),
@@ -274,7 +276,7 @@ fn put_in(
 /// Stores a byte of a string, if the string is that long.
 #[tactic(auto, using(vm_content::proofs::Cells::cell_written, vm_content::proofs::Cells::cell_missing))]
 pub(crate) fn put_byte_in(strings: &mut BTreeMap<Cell, Bytes>, string: Cell, at: u32, byte: u8)
-    ensures { from_entries {R = cell_cmp} strings.new.entries ≡ put_cell string (put_byte at (value.Byte byte)) (from_entries {R = cell_cmp} strings.old.entries) }
+    ensures { cells_of strings.new ≡ put_cell string (put_byte at (value.Byte byte)) (cells_of strings.old) }
 {
     if let Some(bytes) = strings.get_mut(&string) {
         bytes.set(at, byte);
@@ -287,13 +289,13 @@ pub(crate) fn close_until(
     strings: &mut BTreeMap<Cell, Bytes>,
     name: SaveName,
 ) -> Result<(), NoMemory>
-    requires cells { HaveCells (from_entries {R = cell_cmp} strings.old.entries) locals.old.cells }
+    requires cells { HaveCells (cells_of strings.old) locals.old.cells }
     requires open { copy_named name locals.old.kept ≢ None }
     ensures copy { OnOk result (copy_named name locals.old.kept ≡ Some locals.new.cells) }
     ensures kept { OnOk result (locals.new.kept ≡ older_than name locals.old.kept) }
-    ensures strings { OnOk result (from_entries {R = cell_cmp} strings.new.entries ≡ kept_from name (from_entries {R = cell_cmp} strings.old.entries)) }
-    ensures cells { HaveCells (from_entries {R = cell_cmp} strings.new.entries) locals.new.cells }
-    ensures fewer { (c : Cell) → get (from_entries {R = cell_cmp} strings.old.entries) c ≡ None → get (from_entries {R = cell_cmp} strings.new.entries) c ≡ None }
+    ensures strings { OnOk result (cells_of strings.new ≡ kept_from name (cells_of strings.old)) }
+    ensures cells { HaveCells (cells_of strings.new) locals.new.cells }
+    ensures fewer { (c : Cell) → get (cells_of strings.old) c ≡ None → get (cells_of strings.new) c ≡ None }
 {
     while let Some(closed) = locals.close(strings)? {
         if name == closed {

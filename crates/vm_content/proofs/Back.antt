@@ -16,6 +16,7 @@ use Rattle.ps_memory.proofs.Order.{keys_total, keys_antisymmetric, key_is, key_i
 use Rattle.vm_content.specs.Content.{slot_in, value_in}
 use Rattle.vm_content.specs.Back.{over_entry, entry_back, content_back}
 use Rattle.vm_content.proofs.Keyed.{entry_found, entry_stored}
+use Rattle.vm_content.specs.Maps.{entries_of}
 
 -- ---- entries
 
@@ -26,7 +27,7 @@ pub nothing_over : (es : List (Key × Object)) (k : Key) (x : Object) → lookup
 nothing_over es k x e = ap (over_found k x (from_entries es)) (entry_found es k ∙ e)
 
 pub written_over : (m n : BTreeMap Key Object) (k : Key) (x y : Object) → Some y ≡ lookup (is_at (key_cmp k)) m.entries → WritesThrough key_cmp (key_cmp k) m x n
-    → from_entries {R = key_cmp} n.entries ≡ over_entry k x (from_entries m.entries)
+    → entries_of n ≡ over_entry k x (from_entries m.entries)
 written_over m n k x y was h = entry_stored m.entries n.entries k x (h.3 (subst IsSome was refl)).0 ∙ sym (ap (over_found k x (from_entries m.entries)) (entry_found m.entries k ∙ sym was))
 
 -- maps that differ at one key

@@ -6,6 +6,7 @@ ghost use Rattle.ps_memory.specs.Order.{cell_cmp};
 ghost use Rattle.ps_memory.specs.Memory.{put_content, put_cell};
 ghost use Rattle.vm_content.specs.Content.{slot_in};
 ghost use Rattle.vm_content.specs.Back.{given_back};
+ghost use Rattle.vm_content.specs.Maps.{cells_of};
 
 use crate::content::is_absent;
 use crate::{Bytes, Content};
@@ -66,7 +67,7 @@ impl Content {
 /// Gives back what a write to a cell changed.
 #[tactic(auto, using(crate::proofs::Cells::cell_written, crate::proofs::Cells::cell_missing))]
 pub fn give_cell_back(cells: &mut BTreeMap<Cell, Content>, cell: Cell, before: Before)
-    ensures { from_entries {R = cell_cmp} cells.new.entries ≡ put_cell cell (given_back before) (from_entries {R = cell_cmp} cells.old.entries) }
+    ensures { cells_of cells.new ≡ put_cell cell (given_back before) (cells_of cells.old) }
 {
     if let Some(content) = cells.get_mut(&cell) {
         content.give_back(before);
@@ -76,7 +77,7 @@ pub fn give_cell_back(cells: &mut BTreeMap<Cell, Content>, cell: Cell, before: B
 /// Takes a cell away.
 #[tactic(auto, using(crate::proofs::Cells::cell_removed))]
 pub fn forget_cell(cells: &mut BTreeMap<Cell, Content>, cell: Cell)
-    ensures { from_entries {R = cell_cmp} cells.new.entries ≡ remove (from_entries {R = cell_cmp} cells.old.entries) cell }
+    ensures { cells_of cells.new ≡ remove (cells_of cells.old) cell }
 {
     cells.remove(&cell);
 }
@@ -84,7 +85,7 @@ pub fn forget_cell(cells: &mut BTreeMap<Cell, Content>, cell: Cell)
 /// Takes the bytes of a string away.
 #[tactic(auto, using(crate::proofs::Cells::cell_removed))]
 pub fn forget_bytes(strings: &mut BTreeMap<Cell, Bytes>, string: Cell)
-    ensures { from_entries {R = cell_cmp} strings.new.entries ≡ remove (from_entries {R = cell_cmp} strings.old.entries) string }
+    ensures { cells_of strings.new ≡ remove (cells_of strings.old) string }
 {
     strings.remove(&string);
 }

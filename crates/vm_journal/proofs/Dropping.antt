@@ -13,6 +13,7 @@ use Rattle.ps_memory.proofs.Keeping.{keep_all, keep_change}
 use Rattle.ps_objects.specs.Cell.{comes_after}
 use Rattle.vm_content.proofs.Cells.{cell_found, cell_removed, last_is_greatest, newer_after, same_kept, all_kept, kept_removed}
 use Rattle.vm_journal.specs.Part.{AreLocal, HaveCells, kept_from}
+use Rattle.vm_content.specs.Maps.{cells_of}
 
 -- some of the cells that come after a save are gone, each with its string
 pub record Dropped (s : SaveName) (m : CellMap) (t : FinMap cell_cmp (List ℕ)) (n : CellMap) (u : FinMap cell_cmp (List ℕ)) : Type 0 where
@@ -85,36 +86,36 @@ all_dropped s m n t u a d h = (
 -- ---- the same over the entries of maps
 
 pub dropped_one : (s : SaveName) (m n o : BTreeMap Cell Content) (t u w : BTreeMap Cell (List ℕ)) (k : Cell) (x : Content)
-    → Dropped s (from_entries {R = cell_cmp} m.entries) (from_entries {R = cell_cmp} t.entries) (from_entries n.entries) (from_entries u.entries)
+    → Dropped s (cells_of m) (cells_of t) (from_entries n.entries) (from_entries u.entries)
     → lookup (is_at (cell_cmp k)) n.entries ≡ Some x → comes_after k s ≡ true → Updates cell_cmp n o k None → Updates cell_cmp u w k None
-    → Dropped s (from_entries {R = cell_cmp} m.entries) (from_entries {R = cell_cmp} t.entries) (from_entries o.entries) (from_entries w.entries)
+    → Dropped s (cells_of m) (cells_of t) (from_entries o.entries) (from_entries w.entries)
 dropped_one s m n o t u w k x d e h f g =
     let next = one_dropped s (from_entries m.entries) (from_entries n.entries) (from_entries t.entries) (from_entries u.entries) k x d (cell_found n.entries k ∙ e) h in
     subst (λ (p : CellMap × FinMap cell_cmp (List ℕ)). Dropped s (from_entries m.entries) (from_entries t.entries) p.0 p.1)
     (λ i. (sym (cell_removed n.entries o.entries k f.0) i, sym (cell_removed u.entries w.entries k g.0) i)) next
 
-pub dropped_all : (s : SaveName) (m n : BTreeMap Cell Content) (t u : BTreeMap Cell (List ℕ)) (k : Cell) → AreLocal (from_entries {R = cell_cmp} m.entries)
-    → Dropped s (from_entries {R = cell_cmp} m.entries) (from_entries {R = cell_cmp} t.entries) (from_entries n.entries) (from_entries u.entries)
+pub dropped_all : (s : SaveName) (m n : BTreeMap Cell Content) (t u : BTreeMap Cell (List ℕ)) (k : Cell) → AreLocal (cells_of m)
+    → Dropped s (cells_of m) (cells_of t) (from_entries n.entries) (from_entries u.entries)
     → IsUpperBound cell_cmp n k → comes_after k s ≡ false
-    → (from_entries {R = cell_cmp} n.entries ≡ kept_from s (from_entries m.entries)) × (from_entries {R = cell_cmp} u.entries ≡ kept_from s (from_entries t.entries))
+    → (cells_of n ≡ kept_from s (from_entries m.entries)) × (cells_of u ≡ kept_from s (from_entries t.entries))
 dropped_all s m n t u k a d bound old = all_dropped s (from_entries m.entries) (from_entries n.entries) (from_entries t.entries) (from_entries u.entries) a d (last_is_greatest n k s bound (λ new. true≢false (sym (newer_after k s new) ∙ old)))
 
 nothing : {X : Type 0} (es : List (Cell × X)) (q : Cell) → ¬ (0 < length es) → IsSome (lookup (is_at (cell_cmp q)) es) → true ≡ false
 nothing [] q h i = sym i
 nothing (e ∷ es) q h i = absurd (h (omega arith))
 
-none_dropped_more : (s : SaveName) (m n : BTreeMap Cell Content) (t u : BTreeMap Cell (List ℕ)) → AreLocal (from_entries {R = cell_cmp} m.entries)
-    → Dropped s (from_entries {R = cell_cmp} m.entries) (from_entries {R = cell_cmp} t.entries) (from_entries n.entries) (from_entries u.entries) → ¬ (0 < length n.entries)
-    → (from_entries {R = cell_cmp} n.entries ≡ kept_from s (from_entries m.entries)) × (from_entries {R = cell_cmp} u.entries ≡ kept_from s (from_entries t.entries))
+none_dropped_more : (s : SaveName) (m n : BTreeMap Cell Content) (t u : BTreeMap Cell (List ℕ)) → AreLocal (cells_of m)
+    → Dropped s (cells_of m) (cells_of t) (from_entries n.entries) (from_entries u.entries) → ¬ (0 < length n.entries)
+    → (cells_of n ≡ kept_from s (from_entries m.entries)) × (cells_of u ≡ kept_from s (from_entries t.entries))
 none_dropped_more s m n t u a d none = all_dropped s (from_entries m.entries) (from_entries n.entries) (from_entries t.entries) (from_entries u.entries) a d
     (λ q h. absurd (true≢false (nothing n.entries q none (subst IsSome (cell_found n.entries q) h))))
 
-pub no_cell_left : (s : SaveName) (m n : BTreeMap Cell Content) (t u : BTreeMap Cell (List ℕ)) → AreLocal (from_entries {R = cell_cmp} m.entries)
-    → Dropped s (from_entries {R = cell_cmp} m.entries) (from_entries {R = cell_cmp} t.entries) (from_entries n.entries) (from_entries u.entries) → ¬ (0 < length n.entries)
-    → from_entries {R = cell_cmp} n.entries ≡ kept_from s (from_entries m.entries)
+pub no_cell_left : (s : SaveName) (m n : BTreeMap Cell Content) (t u : BTreeMap Cell (List ℕ)) → AreLocal (cells_of m)
+    → Dropped s (cells_of m) (cells_of t) (from_entries n.entries) (from_entries u.entries) → ¬ (0 < length n.entries)
+    → cells_of n ≡ kept_from s (from_entries m.entries)
 no_cell_left s m n t u a d none = (none_dropped_more s m n t u a d none).0
 
-pub no_string_left : (s : SaveName) (m n : BTreeMap Cell Content) (t u : BTreeMap Cell (List ℕ)) → AreLocal (from_entries {R = cell_cmp} m.entries)
-    → Dropped s (from_entries {R = cell_cmp} m.entries) (from_entries {R = cell_cmp} t.entries) (from_entries n.entries) (from_entries u.entries) → ¬ (0 < length n.entries)
-    → from_entries {R = cell_cmp} u.entries ≡ kept_from s (from_entries t.entries)
+pub no_string_left : (s : SaveName) (m n : BTreeMap Cell Content) (t u : BTreeMap Cell (List ℕ)) → AreLocal (cells_of m)
+    → Dropped s (cells_of m) (cells_of t) (from_entries n.entries) (from_entries u.entries) → ¬ (0 < length n.entries)
+    → cells_of u ≡ kept_from s (from_entries t.entries)
 no_string_left s m n t u a d none = (none_dropped_more s m n t u a d none).1

@@ -21,6 +21,7 @@ use Rattle.vm_content.proofs.Cells.{cell_found, cell_written}
 use Rattle.vm_journal.specs.Journal.{Saved, put_held, reverted, as_saved, copies, is_latest, is_rising}
 use Rattle.vm_journal.specs.Part.{Part, AreLocal}
 use Rattle.vm_journal.proofs.Noting.{cell_same}
+use Rattle.vm_content.specs.Maps.{cells_of}
 
 -- ---- the last of a list
 
@@ -149,5 +150,5 @@ pub local_same : (m n : CellMap) → n ≡ m → AreLocal m → AreLocal n
 local_same m n e h q i = ap (λ o. get o q) e ∙ h q i
 
 -- what was there is written back
-pub written_back : (m n : BTreeMap Cell Content) (k : Cell) (x y : Content) → Some x ≡ lookup (is_at (cell_cmp k)) m.entries → y ≡ x → WritesThrough cell_cmp (cell_cmp k) m y n → from_entries {R = cell_cmp} n.entries ≡ from_entries m.entries
+pub written_back : (m n : BTreeMap Cell Content) (k : Cell) (x y : Content) → Some x ≡ lookup (is_at (cell_cmp k)) m.entries → y ≡ x → WritesThrough cell_cmp (cell_cmp k) m y n → cells_of n ≡ from_entries m.entries
 written_back m n k x y was is h = cell_written m n k x y (λ z. z) was is h ∙ cell_same k (λ z. z) (from_entries m.entries) x (cell_found m.entries k ∙ sym was) refl

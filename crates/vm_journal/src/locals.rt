@@ -9,6 +9,7 @@ ghost use Rattle.vm_content.specs.Content.{slot_in};
 ghost use Rattle.vm_content.specs.Back.{given_back};
 ghost use Rattle.vm_journal.specs.Journal.{copies, put_held, reverted, holder, is_rising};
 ghost use Rattle.vm_journal.specs.Part.{AreLocal, HaveCells, Closes, is_empty, kept_from};
+ghost use Rattle.vm_content.specs.Maps.{cells_of};
 
 use crate::journal::OpenSave;
 use ps_objects::{Cell, Loc, NoMemory, SaveName, Shape, Space, Value};
@@ -26,6 +27,7 @@ pub struct Locals {
 }
 
 impl Model for Locals {
+    ghost use Rattle.vm_content.specs.Maps.{cells_of};
     ghost use Rattle.std.specs.Prelude.{◌≡◌, true, reverse};
     ghost use Rattle.std.specs.FinMap.{from_entries};
     ghost use Rattle.ps_memory.specs.Order.{cell_cmp};
@@ -36,16 +38,16 @@ impl Model for Locals {
 
     ghost coded = { part_code };
 
-    ghost view = { λ part. record { cells = from_entries {R = cell_cmp} part.cells.entries; kept = copies (reverse part.saves.items) (from_entries {R = cell_cmp} part.cells.entries) } };
+    ghost view = { λ part. record { cells = cells_of part.cells; kept = copies (reverse part.saves.items) (cells_of part.cells) } };
 
-    ghost invariant = { λ part. AreLocal (from_entries {R = cell_cmp} part.cells.entries) × (is_rising (reverse part.saves.items) ≡ true) };
+    ghost invariant = { λ part. AreLocal (cells_of part.cells) × (is_rising (reverse part.saves.items) ≡ true) };
 }
 
 impl Locals {
     /// The cells, with no save open.
     pub fn new(alloc: Global, cells: BTreeMap<Cell, Content>) -> Locals
-        requires { AreLocal (from_entries {R = cell_cmp} cells.entries) }
-        ensures { result ≡ record { cells = from_entries {R = cell_cmp} cells.entries; kept = [] } }
+        requires { AreLocal (cells_of cells) }
+        ensures { result ≡ record { cells = cells_of cells; kept = [] } }
     {
         Locals {
             alloc,
@@ -106,10 +108,10 @@ impl Locals {
         &mut self,
         strings: &mut BTreeMap<Cell, Bytes>,
     ) -> Result<Option<SaveName>, NoMemory>
-        requires { HaveCells (from_entries {R = cell_cmp} strings.old.entries) self.old.cells }
-        ensures closed { IfOk result (λ name. Closes name self.old self.new (from_entries {R = cell_cmp} strings.old.entries) (from_entries {R = cell_cmp} strings.new.entries)) }
-        ensures cells { HaveCells (from_entries {R = cell_cmp} strings.new.entries) self.new.cells }
-        ensures fewer { (c : Cell) → get (from_entries {R = cell_cmp} strings.old.entries) c ≡ None → get (from_entries {R = cell_cmp} strings.new.entries) c ≡ None }
+        requires { HaveCells (cells_of strings.old) self.old.cells }
+        ensures closed { IfOk result (λ name. Closes name self.old self.new (cells_of strings.old) (cells_of strings.new)) }
+        ensures cells { HaveCells (cells_of strings.new) self.new.cells }
+        ensures fewer { (c : Cell) → get (cells_of strings.old) c ≡ None → get (cells_of strings.new) c ≡ None }
     {
         let Some(save) = take_save(&mut self.saves) else {
             return Ok(None);
@@ -159,10 +161,10 @@ fn note(
     at: &Loc,
 ) -> Result<(), NoMemory>
     requires spot { spot_of at.now ≡ held cell (slot_in at.now) }
-    requires place { is_slot (get (from_entries {R = cell_cmp} cells.now.entries) cell) (slot_in at.now) ≡ true }
+    requires place { is_slot (get (cells_of cells.now) cell) (slot_in at.now) ≡ true }
     ensures rising { is_rising (reverse saves.new.items) ≡ is_rising (reverse saves.old.items) }
-    ensures same { copies (reverse saves.new.items) (from_entries {R = cell_cmp} cells.now.entries) ≡ copies (reverse saves.old.items) (from_entries {R = cell_cmp} cells.now.entries) }
-    ensures noted { OnOk result ((v : Value) → copies (reverse saves.new.items) (put_held (spot_of at.now) v (from_entries {R = cell_cmp} cells.now.entries)) ≡ copies (reverse saves.old.items) (from_entries {R = cell_cmp} cells.now.entries)) }
+    ensures same { copies (reverse saves.new.items) (cells_of cells.now) ≡ copies (reverse saves.old.items) (cells_of cells.now) }
+    ensures noted { OnOk result ((v : Value) → copies (reverse saves.new.items) (put_held (spot_of at.now) v (cells_of cells.now)) ≡ copies (reverse saves.old.items) (cells_of cells.now)) }
 {
     match saves.last_mut() {
         Some(save) => save.note(cells, cell, at),
@@ -176,8 +178,8 @@ fn add_cell(
     cell: Cell,
     content: Content,
 ) -> Result<(), NoMemory>
-    ensures ok { OnOk result (from_entries {R = cell_cmp} cells.new.entries ≡ insert (from_entries {R = cell_cmp} cells.old.entries) cell content) }
-    ensures err { OnErr result (from_entries {R = cell_cmp} cells.new.entries ≡ from_entries {R = cell_cmp} cells.old.entries) }
+    ensures ok { OnOk result (cells_of cells.new ≡ insert (cells_of cells.old) cell content) }
+    ensures err { OnErr result (cells_of cells.new ≡ cells_of cells.old) }
 {
     cells.insert(cell, content)?;
     Ok(())
@@ -205,10 +207,10 @@ fn drop_newer(
     strings: &mut BTreeMap<Cell, Bytes>,
     save: SaveName,
 )
-    requires local { AreLocal (from_entries {R = cell_cmp} cells.old.entries) }
-    requires cells { HaveCells (from_entries {R = cell_cmp} strings.old.entries) (from_entries {R = cell_cmp} cells.old.entries) }
-    ensures cells { from_entries {R = cell_cmp} cells.new.entries ≡ kept_from save (from_entries {R = cell_cmp} cells.old.entries) }
-    ensures strings { from_entries {R = cell_cmp} strings.new.entries ≡ kept_from save (from_entries {R = cell_cmp} strings.old.entries) }
+    requires local { AreLocal (cells_of cells.old) }
+    requires cells { HaveCells (cells_of strings.old) (cells_of cells.old) }
+    ensures cells { cells_of cells.new ≡ kept_from save (cells_of cells.old) }
+    ensures strings { cells_of strings.new ≡ kept_from save (cells_of strings.old) }
 {
     while let Some((last, _)) = cells.last_key_value() {
         if !last.comes_after(save) {
@@ -223,8 +225,8 @@ fn drop_newer(
 /// Puts a value back at a place of a cell, if the cell stands.
 #[tactic(auto, using(vm_content::proofs::Cells::cell_written, vm_content::proofs::Cells::cell_missing, crate::proofs::Parting::written_back))]
 fn put_one(cells: &mut BTreeMap<Cell, Content>, at: &Loc, value: Value) -> Result<(), NoMemory>
-    ensures ok { OnOk result (from_entries {R = cell_cmp} cells.new.entries ≡ put_held (spot_of at.now) value (from_entries {R = cell_cmp} cells.old.entries)) }
-    ensures err { OnErr result (from_entries {R = cell_cmp} cells.new.entries ≡ from_entries {R = cell_cmp} cells.old.entries) }
+    ensures ok { OnOk result (cells_of cells.new ≡ put_held (spot_of at.now) value (cells_of cells.old)) }
+    ensures err { OnErr result (cells_of cells.new ≡ cells_of cells.old) }
 {
     if let Some(cell) = holder(at) {
         if let Some(content) = cells.get_mut(&cell) {
@@ -240,9 +242,9 @@ fn put_back(
     cells: &mut BTreeMap<Cell, Content>,
     notes: BTreeMap<Loc, Value>,
 ) -> Result<(), NoMemory>
-    ensures ok { OnOk result (from_entries {R = cell_cmp} cells.new.entries ≡ reverted notes.entries (from_entries {R = cell_cmp} cells.old.entries)) }
-    ensures there { (c : Cell) → get (from_entries {R = cell_cmp} cells.new.entries) c ≡ None → get (from_entries {R = cell_cmp} cells.old.entries) c ≡ None }
-    ensures gone { (c : Cell) → get (from_entries {R = cell_cmp} cells.old.entries) c ≡ None → get (from_entries {R = cell_cmp} cells.new.entries) c ≡ None }
+    ensures ok { OnOk result (cells_of cells.new ≡ reverted notes.entries (cells_of cells.old)) }
+    ensures there { (c : Cell) → get (cells_of cells.new) c ≡ None → get (cells_of cells.old) c ≡ None }
+    ensures gone { (c : Cell) → get (cells_of cells.old) c ≡ None → get (cells_of cells.new) c ≡ None }
 {
     let mut notes = notes;
     while let Some((at, value)) = notes.pop_first() {
