@@ -4,7 +4,7 @@ ghost use Rattle.std.specs.FinMap.{get, insert, from_entries};
 ghost use Rattle.std.specs.List.{AllByRecursion};
 ghost use Rattle.ps_memory.specs.Order.{cell_cmp};
 ghost use Rattle.ps_objects.specs.declared.place.Value.TheVariants as value;
-ghost use Rattle.ps_memory.specs.Memory.{is_global, newer, part, with_part, value_at, value_found, in_string, page_found, is_slot, is_kind, held, byte, rand, paper, spot_of, put_content, put_byte, put_cell, do_store, copy_named, older_than};
+ghost use Rattle.ps_memory.specs.Memory.{is_global, newer, part, with_part, value_at, value_found, in_string, page_found, is_slot, is_kind, held, byte, rand, paper, spot_of, put_content, put_byte, put_cell, characters, do_store, copy_named, older_than};
 ghost use Rattle.vm_content.specs.Content.{slot_in};
 ghost use Rattle.ps_memory.specs.Holders.{HaveHolders};
 ghost use Rattle.vm_journal.specs.Part.{HaveCells, kept_from};
@@ -15,7 +15,7 @@ use ps_objects::{Cell, Loc, NoMemory, SaveName, Space, Value};
 use std::alloc::Global;
 use std::collections::BTreeMap;
 use std::marker::Model;
-use vm_content::{Bytes, Content};
+use vm_content::{Bytes, Content, insert_cell, put_in_cell};
 use vm_journal::Locals;
 
 /// The committed memory: local and global cells, the bytes of strings, the state of the random numbers and the paper
@@ -120,7 +120,7 @@ impl Cells {
     {
         match cell.space {
             Space::Local => self.locals.put(cell, at, value),
-            Space::Global => put_in(&mut self.globals, cell, at, value),
+            Space::Global => put_in_cell(&mut self.globals, at, value),
         }
     }
 
@@ -164,7 +164,7 @@ impl Cells {
         ensures ok { OnOk result (self.new ≡ with_part self.old cell (λ m. insert m cell content)) }
         ensures err { OnErr result (self.new ≡ self.old) }
     {
-        insert_cell(&mut self.locals, &mut self.globals, cell, content)?;
+        insert_held(&mut self.locals, &mut self.globals, cell, content)?;
         Ok(())
     }
 
@@ -175,6 +175,7 @@ impl Cells {
         len: u32,
         content: Content,
     ) -> Result<(), NoMemory>
+        requires string { content ≡ characters len }
         requires unused { get self.old.strings cell ≡ None }
         requires newest { is_global cell ≡ false → AllByRecursion (λ k. newer cell k.0 ≡ true) self.old.kept }
         ensures ok { OnOk result (self.new ≡ record (with_part self.old cell (λ m. insert m cell content)) { strings = insert self.old.strings cell (replicate len 0) }) }
@@ -213,7 +214,7 @@ fn insert_string(
     ensures same_strings { OnErr result (cells_of strings.new ≡ cells_of strings.old) }
 {
     strings.insert(cell, bytes)?;
-    match insert_cell(locals, globals, cell, content) {
+    match insert_held(locals, globals, cell, content) {
         Ok(()) => Ok(()),
         Err(error) => {
             strings.remove(&cell);
@@ -223,7 +224,7 @@ fn insert_string(
 }
 
 /// Adds a cell to its part.
-fn insert_cell(
+fn insert_held(
     locals: &mut Locals,
     globals: &mut BTreeMap<Cell, Content>,
     cell: Cell,
@@ -237,40 +238,9 @@ fn insert_cell(
 {
     match cell.space {
         Space::Local => locals.insert(cell, content)?,
-        Space::Global => insert_in(globals, cell, content)?,
+        Space::Global => insert_cell(globals, cell, content)?,
     }
     Ok(())
-}
-
-/// Adds a cell to a map.
-#[tactic(auto, using(vm_content::proofs::Cells::cell_inserted))]
-fn insert_in(
-    cells: &mut BTreeMap<Cell, Content>,
-    cell: Cell,
-    content: Content,
-) -> Result<(), NoMemory>
-    ensures ok { OnOk result (cells_of cells.new ≡ insert (cells_of cells.old) cell content) }
-    ensures err { OnErr result (cells_of cells.new ≡ cells_of cells.old) }
-{
-    cells.insert(cell, content)?;
-    Ok(())
-}
-
-/// Stores a value at a place of a cell of a map.
-#[tactic(auto, using(vm_content::proofs::Cells::cell_written, vm_content::proofs::Cells::cell_missing, crate::proofs::WholeStores::cell_kept))]
-fn put_in(
-    cells: &mut BTreeMap<Cell, Content>,
-    cell: Cell,
-    at: &Loc,
-    value: Value,
-) -> Result<(), NoMemory>
-    ensures ok { OnOk result (cells_of cells.new ≡ put_cell cell (put_content (slot_in at.now) value) (cells_of cells.old)) }
-    ensures err { OnErr result (cells_of cells.new ≡ cells_of cells.old) }
-{
-    match cells.get_mut(&cell) {
-        Some(content) => content.put(at, value),
-        None => Ok(()),
-    }
 }
 
 /// Stores a byte of a string, if the string is that long.

@@ -6,6 +6,7 @@ use Rattle.std.specs.BTreeMap.{BTreeMap, is_at, Updates, IsUpperBound}
 use Rattle.ps_objects.specs.declared.cell.Cell.{Cell}
 use Rattle.ps_objects.specs.declared.cell.SaveName.{SaveName}
 use Rattle.ps_memory.specs.Order.{cell_cmp}
+use Rattle.ps_memory.specs.Holders.{holds_string}
 use Rattle.ps_memory.specs.Memory.{is_global, newer, Content, CellMap}
 use Rattle.ps_memory.specs.Ownership.{same_cell}
 use Rattle.ps_memory.proofs.Order.{cells_total}
@@ -43,14 +44,14 @@ one_dropped s m n t u k x d e h = record {
   cells = kept_removed n k (λ c. not (comes_after c s)) (ap not h) ∙ d.cells;
   strings = keep_change s k u (remove u k) (is_newer k s (stands_local n k x d.are_local e) h) (λ q i. get-remove cells_total u k q ∙ ap (λ b. cond b None (get u q)) i) ∙ d.strings;
   are_local = λ q g. get-remove cells_total n k q ∙ gone (same_cell q k) (get n q) (d.are_local q g);
-  have_cells = λ q g i. get-remove cells_total u k q ∙ absent q (same_cell q k) (sym (get-remove cells_total n k q) ∙ i) (d.have_cells q g);
+  have_cells = λ q g i. get-remove cells_total u k q ∙ absent q (same_cell q k) (ap holds_string (sym (get-remove cells_total n k q)) ∙ i) (d.have_cells q g);
 }
   where
     gone : {X : Type 0} (b : Bool) (o : Option X) → o ≡ None → cond b None o ≡ None
     gone true o e = refl
     gone false o e = e
 
-    absent : (q : Cell) (b : Bool) → cond b None (get n q) ≡ None → (get n q ≡ None → get u q ≡ None) → cond b None (get u q) ≡ None
+    absent : (q : Cell) (b : Bool) → holds_string (cond b None (get n q)) ≡ false → (holds_string (get n q) ≡ false → get u q ≡ None) → cond b None (get u q) ≡ None
     absent q true i f = refl
     absent q false i f = f i
 
@@ -68,7 +69,7 @@ same_tests m s a = same_kept m (λ c. not (comes_after c s)) (λ c. not (newer c
 pub all_dropped : (s : SaveName) (m n : CellMap) (t u : FinMap cell_cmp (List ℕ)) → AreLocal m → Dropped s m t n u → ((q : Cell) → IsSome (get n q) → comes_after q s ≡ false) → (n ≡ kept_from s m) × (u ≡ kept_from s t)
 all_dropped s m n t u a d h = (
   sym (all_kept n (λ c. not (comes_after c s)) (λ q i. ap not (h q i))) ∙ d.cells ∙ same_tests m s a,
-  sym (keep_all s u (λ q i. d.have_cells q (local q (is_global q) refl i) (stays q i (get n q) refl))) ∙ d.strings,
+  sym (keep_all s u (λ q i. d.have_cells q (local q (is_global q) refl i) (ap holds_string (stays q i (get n q) refl)))) ∙ d.strings,
 )
   where
     local : (q : Cell) (b : Bool) → is_global q ≡ b → newer q s ≡ true → is_global q ≡ false

@@ -5,8 +5,8 @@ ghost use Rattle.std.specs.BTreeMap.{is_at, insert_entry};
 ghost use Rattle.std.specs.FinMap.{get, from_entries};
 ghost use Rattle.ps_memory.specs.Order.{cell_cmp};
 ghost use Rattle.ps_memory.specs.Memory.{newer, is_slot, is_kind, held, spot_of};
-ghost use Rattle.vm_content.specs.Content.{slot_in};
-ghost use Rattle.vm_journal.specs.Journal.{loc_cmp, as_saved, put_held};
+ghost use Rattle.vm_content.specs.Content.{slot_in, put_held};
+ghost use Rattle.vm_journal.specs.Journal.{loc_cmp, as_saved};
 ghost use Rattle.vm_content.specs.Maps.{cells_of};
 
 use ps_objects::{Cell, Loc, NoMemory, SaveName, Space, Value};

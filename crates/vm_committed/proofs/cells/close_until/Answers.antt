@@ -1,6 +1,4 @@
 use Rattle.std.proofs.Common.{sym, ◌∙◌}
-use Rattle.std.specs.FinMap.{from_entries}
-use Rattle.ps_memory.specs.Order.{cell_cmp}
 use Rattle.vm_committed.proofs.WholeClosing.{other_copy, other_older, other_strings}
 use Rattle.vm_committed.proofs.cells.close_until.Goals as goal
 use Rattle.vm_content.specs.Maps.{cells_of}

@@ -1,7 +1,6 @@
 use Rattle.std.proofs.Common.{length, ◌≡◌, None}
-use Rattle.std.specs.FinMap.{from_entries, get}
+use Rattle.std.specs.FinMap.{get}
 use Rattle.ps_objects.specs.declared.cell.Cell.{Cell}
-use Rattle.ps_memory.specs.Order.{cell_cmp}
 use Rattle.ps_memory.specs.Memory.{copy_named, older_than}
 use Rattle.vm_journal.specs.Part.{HaveCells, kept_from}
 use Rattle.vm_committed.proofs.cells.close_until.Given as goal

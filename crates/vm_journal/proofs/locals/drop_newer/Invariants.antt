@@ -1,6 +1,5 @@
 use Rattle.std.proofs.Common.{length}
 use Rattle.std.specs.FinMap.{from_entries}
-use Rattle.ps_memory.specs.Order.{cell_cmp}
 use Rattle.vm_journal.proofs.Dropping.{Dropped}
 use Rattle.vm_journal.proofs.locals.drop_newer.Given as goal
 use Rattle.vm_content.specs.Maps.{cells_of}

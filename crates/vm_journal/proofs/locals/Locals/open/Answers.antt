@@ -1,8 +1,7 @@
 use Rattle.std.proofs.Common.{◌≡◌, true, None, ◌∷◌, reverse, subst, sym, ap, ◌∙◌}
-use Rattle.std.specs.FinMap.{get, from_entries}
+use Rattle.std.specs.FinMap.{get}
 use Rattle.std.specs.List.{AllByRecursion}
 use Rattle.ps_objects.specs.declared.cell.Cell.{Cell}
-use Rattle.ps_memory.specs.Order.{cell_cmp}
 use Rattle.ps_memory.specs.Memory.{newer}
 use Rattle.ps_memory.specs.Frame.{later}
 use Rattle.vm_journal.specs.Part.{Part}

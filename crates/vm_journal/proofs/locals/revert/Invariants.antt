@@ -1,8 +1,7 @@
 use Rattle.std.proofs.Common.{length}
 use Rattle.std.specs.FinMap.{from_entries}
-use Rattle.ps_memory.specs.Order.{cell_cmp}
 use Rattle.vm_journal.proofs.Reverting.{Reverting}
-use Rattle.vm_journal.proofs.locals.put_back.Given as goal
+use Rattle.vm_journal.proofs.locals.revert.Given as goal
 use Rattle.vm_content.specs.Maps.{cells_of}
 
 abbrev pub decreases-loop-at : goal.decreases-loop-at
