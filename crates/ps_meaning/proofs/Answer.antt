@@ -12,7 +12,7 @@ use Rattle.ps_kinds.specs.declared.state.State.{State}
 use Rattle.ps_memory.specs.Memory.{Memory, value_at, shape_of, restore, perform}
 use Rattle.ps_memory.specs.Tree.{Change, puts, makes, opens, action_of, Application, done, restores, fail, look, ask, Tree, ends, changes, result, after, trail}
 use Rattle.ps_memory.specs.Ownership.{has_save}
-use Rattle.ps_memory.specs.Track.{Track, saw, acted, track_on, outer_on}
+use Rattle.ps_memory.specs.Track.{Track, saw, track_acted, track_on, outer_on}
 use Rattle.ps_meaning.specs.Answer.{changed_in, names_taken, act_done, state_done, Effect, Answer, answer_over, outer_in, taken_by, AnswersAs, AnswersRun, AnswerLaw}
 
 abbrev Ended : Effect → Tree (Result Effect ErrorName)
@@ -21,15 +21,15 @@ Ended e = ends (Ok e)
 -- changes alone have no outer restore
 no_outer : (ws : List Change) (e : Effect) (M : Memory) (k : Track) → outer_on (changes ws (Ended e)) M k ≡ None
 no_outer [] e M k = refl
-no_outer (puts l v ∷ ws) e M k = no_outer ws e (perform (action_of (puts l v)) M) (acted (action_of (puts l v)) k)
-no_outer (makes c sh ∷ ws) e M k = no_outer ws e (perform (action_of (makes c sh)) M) (acted (action_of (makes c sh)) k)
-no_outer (opens s ∷ ws) e M k = no_outer ws e (perform (action_of (opens s)) M) (acted (action_of (opens s)) k)
+no_outer (puts l v ∷ ws) e M k = no_outer ws e (perform (action_of (puts l v)) M) (track_acted (action_of (puts l v)) k)
+no_outer (makes c sh ∷ ws) e M k = no_outer ws e (perform (action_of (makes c sh)) M) (track_acted (action_of (makes c sh)) k)
+no_outer (opens s ∷ ws) e M k = no_outer ws e (perform (action_of (opens s)) M) (track_acted (action_of (opens s)) k)
 
 logged : (ws : List Change) (e : Effect) (M : Memory) (k : Option Track) → changed_in (record { view = M; track = k }) ws ≡ record { view = after (changes ws (Ended e)) M; track = option_map (track_on (changes ws (Ended e)) M) k }
 logged [] e M None = refl
 logged [] e M (Some k) = refl
 logged (w ∷ ws) e M None = logged ws e (perform (action_of w) M) None
-logged (w ∷ ws) e M (Some k) = logged ws e (perform (action_of w) M) (Some (acted (action_of w) k))
+logged (w ∷ ws) e M (Some k) = logged ws e (perform (action_of w) M) (Some (track_acted (action_of w) k))
 
 ends_so : (ws : List Change) (e : Effect) (M : Memory) → result (changes ws (Ended e)) M ≡ Ok e
 ends_so [] e M = refl
@@ -70,7 +70,7 @@ answer_law below (restores q ws e) s M (Some k) = go (has_save q k.owned.saves)
     N = perform (restore q) M
 
     there : Track
-    there = acted (restore q) k
+    there = track_acted (restore q) k
 
     refused : Answer
     refused = record { act = act.Outer q; state = s; log = record { view = M; track = Some k } }

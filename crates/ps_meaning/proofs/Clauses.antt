@@ -11,7 +11,7 @@ use Rattle.ps_kinds.specs.declared.graphics.GState.{GState}
 use Rattle.ps_kinds.specs.declared.graphics.Layer.{Layer}
 use Rattle.ps_kinds.specs.declared.regs.Regs.{Regs}
 use Rattle.ps_kinds.specs.declared.regs.SaveMark.{SaveMark}
-use Rattle.ps_memory.specs.Memory.{is_global, newer, Cells, Memory, Slot, in_content, shape_at}
+use Rattle.ps_memory.specs.Memory.{is_global, newer, CellMap, Memory, Slot, in_content, shape_at}
 use Rattle.ps_meaning.specs.Fits.{Shapes, FitsObject, FitsFound, takes}
 use Rattle.ps_objects.specs.Object.{cell_named}
 use Rattle.ps_meaning.specs.Sound.{without_newer, SoundCopy, SoundKept, SoundMemory}
@@ -23,7 +23,7 @@ use Rattle.ps_meaning.proofs.Memory.{all_map}
 
 -- ---- what stands in a copy or is global is what a restore leaves
 
-module _ (M : Memory) (k : SaveName × Cells) where
+module _ (M : Memory) (k : SaveName × CellMap) where
   abbrev K : Shapes
   K = shape_at M
 
@@ -85,12 +85,12 @@ module _ (J H : Shapes) (e : (c : Cell) → J c ≡ H c) where
 -- ---- from the clauses
 
 module _ (M : Memory) where
-  kept_from : (kept : List (SaveName × Cells)) → AllByRecursion (CopyFits M) kept → AllByRecursion (KeepsOld M) kept → AllByRecursion (StillStands M) kept → Fall (map (λ k. k.0) kept) → AllByRecursion (λ k. 1 ≤ k.0.section) kept
+  kept_from : (kept : List (SaveName × CellMap)) → AllByRecursion (CopyFits M) kept → AllByRecursion (KeepsOld M) kept → AllByRecursion (StillStands M) kept → Fall (map (λ k. k.0) kept) → AllByRecursion (λ k. 1 ≤ k.0.section) kept
       → SoundKept (shape_at M) (map (λ k. k.0) kept) kept
   kept_from [] fits old still fall begun = tt
   kept_from (k ∷ kept) fits old still fall begun = (refl, begun.0, copy_from M k (those M k old.0 still.0) fits.0, fall.0, kept_from kept fits.1 old.1 still.1 fall.1 begun.1)
 
-  marks_from : (marks : List SaveMark) (kept : List (SaveName × Cells)) → map (λ m. m.name) marks ≡ map (λ k. k.0) kept → MarksFit M marks kept → AllByRecursion (KeepsOld M) kept → AllByRecursion (StillStands M) kept
+  marks_from : (marks : List SaveMark) (kept : List (SaveName × CellMap)) → map (λ m. m.name) marks ≡ map (λ k. k.0) kept → MarksFit M marks kept → AllByRecursion (KeepsOld M) kept → AllByRecursion (StillStands M) kept
       → SoundMarks (shape_at M) marks (map (λ k. k.0) kept)
   marks_from [] [] e fits old still = tt
   marks_from [] (k ∷ kept) e fits old still = cc
@@ -132,48 +132,48 @@ enough R M s = record {
 -- ---- to the clauses
 
 module _ (M : Memory) where
-  abbrev Kept : List (SaveName × Cells) → Type 0
+  abbrev Kept : List (SaveName × CellMap) → Type 0
   Kept kept = SoundKept (shape_at M) (map (λ k. k.0) kept) kept
 
-  copies_to : (kept : List (SaveName × Cells)) → Kept kept → AllByRecursion (CopyFits M) kept
+  copies_to : (kept : List (SaveName × CellMap)) → Kept kept → AllByRecursion (CopyFits M) kept
   copies_to [] h = tt
   copies_to (k ∷ kept) h = (fits_from M k h.2, copies_to kept h.4)
 
-  old_to : (kept : List (SaveName × Cells)) → Kept kept → AllByRecursion (KeepsOld M) kept
+  old_to : (kept : List (SaveName × CellMap)) → Kept kept → AllByRecursion (KeepsOld M) kept
   unfolding AreThose
   old_to [] h = tt
   old_to (k ∷ kept) h = (kept_old M k h.2.shapes, old_to kept h.4)
 
-  still_to : (kept : List (SaveName × Cells)) → Kept kept → AllByRecursion (StillStands M) kept
+  still_to : (kept : List (SaveName × CellMap)) → Kept kept → AllByRecursion (StillStands M) kept
   unfolding AreThose
   still_to [] h = tt
   still_to (k ∷ kept) h = (still_there M k h.2.shapes, still_to kept h.4)
 
-  one_later : (j : SaveName × Cells) (kept : List (SaveName × Cells)) → StillStands M j → Kept kept → AllByRecursion (KeepsLater j) kept
+  one_later : (j : SaveName × CellMap) (kept : List (SaveName × CellMap)) → StillStands M j → Kept kept → AllByRecursion (KeepsLater j) kept
   unfolding AreThose
   one_later j [] s h = tt
   one_later j (k ∷ kept) s h = (λ c g n e. let i = (s c g e).1 in kept_old M k h.2.shapes c g n (λ x. e (sym i ∙ x)) ∙ i, one_later j kept s h.4)
 
-  later_to : (kept : List (SaveName × Cells)) → Kept kept → AllKeepLater kept
+  later_to : (kept : List (SaveName × CellMap)) → Kept kept → AllKeepLater kept
   unfolding AreThose
   later_to [] h = tt
   later_to (k ∷ kept) h = (one_later k kept (still_there M k h.2.shapes) h.4, later_to kept h.4)
 
-  fall_to : (kept : List (SaveName × Cells)) → Kept kept → Fall (map (λ k. k.0) kept)
+  fall_to : (kept : List (SaveName × CellMap)) → Kept kept → Fall (map (λ k. k.0) kept)
   fall_to [] h = tt
   fall_to (k ∷ kept) h = (h.3, fall_to kept h.4)
 
-  begun_to : (kept : List (SaveName × Cells)) → Kept kept → AllByRecursion (λ k. 1 ≤ k.0.section) kept
+  begun_to : (kept : List (SaveName × CellMap)) → Kept kept → AllByRecursion (λ k. 1 ≤ k.0.section) kept
   begun_to [] h = tt
   begun_to (k ∷ kept) h = (h.1, begun_to kept h.4)
 
-  names_to : (marks : List SaveMark) (kept : List (SaveName × Cells)) → SoundMarks (shape_at M) marks (map (λ k. k.0) kept) → map (λ m. m.name) marks ≡ map (λ k. k.0) kept
+  names_to : (marks : List SaveMark) (kept : List (SaveName × CellMap)) → SoundMarks (shape_at M) marks (map (λ k. k.0) kept) → map (λ m. m.name) marks ≡ map (λ k. k.0) kept
   names_to [] [] h = refl
   names_to [] (k ∷ kept) h = absurd h
   names_to (m ∷ marks) [] h = absurd h
   names_to (m ∷ marks) (k ∷ kept) h = λ i. h.0 i ∷ names_to marks kept h.3 i
 
-  marks_to : (marks : List SaveMark) (kept : List (SaveName × Cells)) → SoundMarks (shape_at M) marks (map (λ k. k.0) kept) → Kept kept → MarksFit M marks kept
+  marks_to : (marks : List SaveMark) (kept : List (SaveName × CellMap)) → SoundMarks (shape_at M) marks (map (λ k. k.0) kept) → Kept kept → MarksFit M marks kept
   unfolding AreThose
   marks_to [] kept h k = tt
   marks_to (m ∷ marks) [] h k = tt

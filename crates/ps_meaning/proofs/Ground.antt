@@ -11,7 +11,7 @@ use Rattle.ps_objects.specs.declared.place.Loc.{Loc}
 use Rattle.ps_objects.specs.declared.place.Loc.TheVariants as loc
 use Rattle.ps_objects.specs.declared.place.Shape.{Shape}
 use Rattle.ps_objects.specs.declared.place.Shape.TheVariants as shape
-use Rattle.ps_memory.specs.Memory.{newer, same_save, Content, dictionary, items, characters, Memory, entry, access, item, whole, spot_of, Page, object_found, byte_found, page_found, in_content, in_string, part, told, keys_of, value_at, shape_in, standing, shape_of, store, fresh, save, restore, tell, do_store, do_fresh, perform}
+use Rattle.ps_memory.specs.Memory.{newer, same_save, Content, dictionary, items, characters, Memory, entry, access, item, whole, spot_of, Page, object_found, byte_found, page_found, in_content, in_string, part, value_found, keys_of, value_at, shape_in, standing_shape, shape_of, store, fresh, save, restore, tell, do_store, do_fresh, perform}
 use Rattle.ps_memory.specs.Tree.{Tree, ends, looks, acts, asks}
 use Rattle.ps_memory.specs.Ownership.{same_cell}
 use Rattle.ps_memory.specs.Frame.{later}
@@ -35,11 +35,11 @@ small_there (x ∷ xs) zero n all e = let p : x ≡ n = cc in subst (λ m. m < 2
 small_there (x ∷ xs) (suc i) n all e = small_there xs i n all.1 e
 
 module _ (W : World) (M : Memory) (s : SoundMemory W M) where
-  entry_answer : (d : Cell) (k : Key) (x : Option Content) (n : ℕ) → shape_in (in_content x whole) ≡ Some (shape.Dict n) → FitsFound W.shapes (entry k) (in_content x (entry k)) → IsAnswer W (loc.Entry d k) (told (in_content x (entry k)))
+  entry_answer : (d : Cell) (k : Key) (x : Option Content) (n : ℕ) → shape_in (in_content x whole) ≡ Some (shape.Dict n) → FitsFound W.shapes (entry k) (in_content x (entry k)) → IsAnswer W (loc.Entry d k) (value_found (in_content x (entry k)))
   entry_answer d k None n e f = tt
   entry_answer d k (Some (dictionary m a es)) n e f = go (get es k) f
     where
-      go : (o : Option Object) → FitsFound W.shapes (entry k) (object_found o) → IsAnswer W (loc.Entry d k) (told (object_found o))
+      go : (o : Option Object) → FitsFound W.shapes (entry k) (object_found o) → IsAnswer W (loc.Entry d k) (value_found (object_found o))
       go None f = tt
       go (Some x) f = f
   entry_answer d k (Some (items xs)) n e f = tt
@@ -51,28 +51,28 @@ module _ (W : World) (M : Memory) (s : SoundMemory W M) where
   keys_answer d (Some (items xs)) n e f = absurd cc
   keys_answer d (Some (characters m)) n e f = absurd cc
 
-  access_answer : (d : Cell) (x : Option Content) (n : ℕ) → shape_in (in_content x whole) ≡ Some (shape.Dict n) → IsAnswer W (loc.Access d) (told (in_content x access))
+  access_answer : (d : Cell) (x : Option Content) (n : ℕ) → shape_in (in_content x whole) ≡ Some (shape.Dict n) → IsAnswer W (loc.Access d) (value_found (in_content x access))
   access_answer d None n e = absurd (apart (shape.Dict n) (sym e))
   access_answer d (Some (dictionary m a es)) n e = tt
   access_answer d (Some (items xs)) n e = absurd cc
   access_answer d (Some (characters m)) n e = absurd cc
 
-  item_answer : (c : Cell) (x : Option Content) (n i : ℕ) → shape_in (in_content x whole) ≡ Some (shape.Array n) → i < n → FitsFound W.shapes (item i) (in_content x (item i)) → IsAnswer W (loc.Item c i) (told (in_content x (item i)))
+  item_answer : (c : Cell) (x : Option Content) (n i : ℕ) → shape_in (in_content x whole) ≡ Some (shape.Array n) → i < n → FitsFound W.shapes (item i) (in_content x (item i)) → IsAnswer W (loc.Item c i) (value_found (in_content x (item i)))
   item_answer c None n i e h f = absurd (apart (shape.Array n) (sym e))
   item_answer c (Some (dictionary m a es)) n i e h f = absurd cc
   item_answer c (Some (items xs)) n i e h f =
       let l : n ≡ length xs = cc in
       let (x, g) = item_there xs i (subst (λ m. i < m) l h) in
-      subst (λ o. IsAnswer W (loc.Item c i) (told (object_found o))) (sym g) (subst (λ o. FitsFound W.shapes (item i) (object_found o)) g f)
+      subst (λ o. IsAnswer W (loc.Item c i) (value_found (object_found o))) (sym g) (subst (λ o. FitsFound W.shapes (item i) (object_found o)) g f)
   item_answer c (Some (characters m)) n i e h f = absurd cc
 
-  byte_answer : (c : Cell) (o : Option (List ℕ)) (n i : ℕ) → StringFits (Some (shape.Str n)) o → i < n → IsAnswer W (loc.Byte c i) (told (in_string o i))
+  byte_answer : (c : Cell) (o : Option (List ℕ)) (n i : ℕ) → StringFits (Some (shape.Str n)) o → i < n → IsAnswer W (loc.Byte c i) (value_found (in_string o i))
   byte_answer c o n i f h =
       let (b, g) = item_there f.0 i (subst (λ m. i < m) (sym f.2) h) in
-      subst (λ o. IsAnswer W (loc.Byte c i) (told (in_string o i))) (sym f.1) (subst (λ o. IsAnswer W (loc.Byte c i) (told (byte_found o))) (sym g) (small_there f.0 i b f.3 g))
+      subst (λ o. IsAnswer W (loc.Byte c i) (value_found (in_string o i))) (sym f.1) (subst (λ o. IsAnswer W (loc.Byte c i) (value_found (byte_found o))) (sym g) (small_there f.0 i b f.3 g))
 
-  paper_answer : (x : Page) → HasPage x W.size → IsAnswer W loc.Paper (told (page_found x))
-  paper_answer x h = subst (λ x. IsAnswer W loc.Paper (told (page_found x))) (sym h.1) h.2
+  paper_answer : (x : Page) → HasPage x W.size → IsAnswer W loc.Paper (value_found (page_found x))
+  paper_answer x h = subst (λ x. IsAnswer W loc.Paper (value_found (page_found x))) (sym h.1) h.2
 
   pub answered : (l : Loc) → IsLoc W.shapes l → IsAnswer W l (value_at M l)
   answered (loc.Entry d k) i = entry_answer d k (get (part M d) d) i.0 (s.shapes d ∙ i.1) (s.slots d (entry k))
@@ -177,7 +177,7 @@ ground (acts (tell o) t) W M Q l s =
     record { safe = (tt, r.safe); world = r.world; sound = r.sound; kin = r.kin; ends = r.ends }
 ground (asks c f) W M Q l s =
     let e = s.shapes c in
-    let r = ground (f (shape_of M c)) W M Q (subst (λ o. Lawful (f (standing o)) W Q) (sym e) l.1) s in
+    let r = ground (f (shape_of M c)) W M Q (subst (λ o. Lawful (f (standing_shape o)) W Q) (sym e) l.1) s in
     record { safe = (λ a. l.0 (sym e ∙ a), r.safe); world = r.world; sound = r.sound; kin = r.kin; ends = r.ends }
 
 pub soundness_law : (A : Type 0) → SoundnessLaw A

@@ -4,7 +4,7 @@ use Rattle.ps_objects.specs.declared.place.Loc.{Loc}
 use Rattle.ps_objects.specs.declared.place.Loc.TheVariants as loc
 use Rattle.ps_objects.specs.declared.place.Value.TheVariants as value
 use Rattle.ps_memory.specs.Memory.{Memory, store, perform}
-use Rattle.ps_memory.specs.Track.{Track, saw, acted, paper_lifted}
+use Rattle.ps_memory.specs.Track.{Track, saw, track_acted, paper_lifted}
 use Rattle.ps_memory.proofs.Seen.{seen_again}
 use Rattle.ps_memory.proofs.Laying.{lifted_and_laid}
 use Rattle.ps_meaning.specs.Answer.{Log, looked_in, SecondLookLaw, LayingLaw}
@@ -22,6 +22,6 @@ second_look_law log l = ap (with_track log.view) (go log.track)
 pub laying_law : LayingLaw
 laying_law log p = ap (with_track (perform (store loc.Paper (value.Paper p)) log.view)) (go log.track)
   where
-    go : (k : Option Track) → option_map (acted (store loc.Paper (value.Paper p))) (option_map paper_lifted k) ≡ option_map (acted (store loc.Paper (value.Paper p))) (option_map (saw loc.Paper) k)
+    go : (k : Option Track) → option_map (track_acted (store loc.Paper (value.Paper p))) (option_map paper_lifted k) ≡ option_map (track_acted (store loc.Paper (value.Paper p))) (option_map (saw loc.Paper) k)
     go None = refl
     go (Some k) = ap Some (lifted_and_laid (value.Paper p) k)

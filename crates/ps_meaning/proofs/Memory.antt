@@ -13,7 +13,7 @@ use Rattle.ps_objects.specs.declared.place.Value.TheVariants as value
 use Rattle.ps_objects.specs.declared.place.Shape.{Shape}
 use Rattle.ps_objects.specs.declared.place.Shape.TheVariants as shape
 use Rattle.ps_memory.specs.Order.{key_cmp}
-use Rattle.ps_memory.specs.Memory.{is_global, newer, same_save, Content, dictionary, items, characters, Cells, Memory, Slot, entry, access, item, whole, Spot, held, byte, rand, paper, spot_of, Page, here, is, object_found, in_content, at, part, shape_in, shape_at, is_slot, is_byte, is_place, is_kind, save, restore, null_object, content_of, new_bytes, put_content, put_byte, put_cell, do_store, do_fresh, copy_named, older_than, put_back, perform}
+use Rattle.ps_memory.specs.Memory.{is_global, newer, same_save, Content, dictionary, items, characters, CellMap, Memory, Slot, entry, access, item, whole, Spot, held, byte, rand, paper, spot_of, Page, here, is, object_found, in_content, at, part, shape_in, shape_at, is_slot, is_byte, is_place, is_kind, save, restore, null_object, content_of, new_bytes, put_content, put_byte, put_cell, do_store, do_fresh, copy_named, older_than, do_restore, perform}
 use Rattle.ps_memory.specs.Ownership.{same_cell, same_spot}
 use Rattle.ps_memory.specs.Frame.{later}
 use Rattle.ps_memory.proofs.Order.{cell_is}
@@ -156,20 +156,20 @@ none_either_way : (b : Bool) (o : Option Shape) → o ≡ None → cond b None o
 none_either_way true o e = refl
 none_either_way false o e = e
 
-copy_stays : (J H : Shapes) (C : Cells) → ((c : Cell) → J c ≢ None → H c ≡ J c) → ((c : Cell) → is_global c ≡ false → H c ≡ J c) → SoundCopy J C → SoundCopy H C
+copy_stays : (J H : Shapes) (C : CellMap) → ((c : Cell) → J c ≢ None → H c ≡ J c) → ((c : Cell) → is_global c ≡ false → H c ≡ J c) → SoundCopy J C → SoundCopy H C
 copy_stays J H C stays same k = record {
   shapes = λ c g. k.shapes c g ∙ sym (same c g);
   slots = λ c t g. found_stays J H stays t (in_content (get C c) t) (k.slots c t g);
 }
 
-pub all_kept : (P : SaveName → Type 0) (K : Shapes) (saves : List SaveName) (ks : List (SaveName × Cells)) → SoundKept K saves ks → AllByRecursion P saves → AllByRecursion (λ k. P k.0) ks
+pub all_kept : (P : SaveName → Type 0) (K : Shapes) (saves : List SaveName) (ks : List (SaveName × CellMap)) → SoundKept K saves ks → AllByRecursion P saves → AllByRecursion (λ k. P k.0) ks
 all_kept P K [] [] h all = tt
 all_kept P K [] (k ∷ ks) h all = absurd h
 all_kept P K (r ∷ rs) [] h all = absurd h
 all_kept P K (r ∷ rs) (k ∷ ks) h all = (subst P (sym h.0) all.0, all_kept P K rs ks h.4 all.1)
 
 -- a new cell is newer than each open save, or global
-kept_with_cell : (K : Shapes) (c : Cell) (sh : Shape) → K c ≡ None → (saves : List SaveName) (ks : List (SaveName × Cells)) → (is_global c ≡ false → AllByRecursion (λ r. newer c r ≡ true) saves) → SoundKept K saves ks → SoundKept (with_cell c sh K) saves ks
+kept_with_cell : (K : Shapes) (c : Cell) (sh : Shape) → K c ≡ None → (saves : List SaveName) (ks : List (SaveName × CellMap)) → (is_global c ≡ false → AllByRecursion (λ r. newer c r ≡ true) saves) → SoundKept K saves ks → SoundKept (with_cell c sh K) saves ks
 kept_with_cell K c sh e [] [] all h = tt
 kept_with_cell K c sh e [] (k ∷ ks) all h = h
 kept_with_cell K c sh e (r ∷ rs) [] all h = h
@@ -193,15 +193,15 @@ kept_with_cell K c sh e (r ∷ rs) (k ∷ ks) all h = (h.0, h.1, copy_stays (wit
         go false g = refl
 
 -- the copy under an open save, and what is kept below it
-pub record Opened (K : Shapes) (s : SaveName) (saves : List SaveName) (ks : List (SaveName × Cells)) : Type 0 where
-  pub copy : Cells
+pub record Opened (K : Shapes) (s : SaveName) (saves : List SaveName) (ks : List (SaveName × CellMap)) : Type 0 where
+  pub copy : CellMap
   pub is_copy : copy_named s ks ≡ Some copy
   pub above : 1 ≤ s.section
   pub fits : SoundCopy (without_newer s K) copy
   pub older : AllByRecursion (λ r. later s r ≡ true) (names_before s saves)
   pub rest : SoundKept K (names_before s saves) (older_than s ks)
 
-pub opened_in : (K : Shapes) (s : SaveName) (saves : List SaveName) (ks : List (SaveName × Cells)) → has_name s saves ≡ true → SoundKept K saves ks → Opened K s saves ks
+pub opened_in : (K : Shapes) (s : SaveName) (saves : List SaveName) (ks : List (SaveName × CellMap)) → has_name s saves ≡ true → SoundKept K saves ks → Opened K s saves ks
 opened_in K s [] ks h k = absurd (true≢false (sym h))
 opened_in K s (r ∷ rs) [] h k = absurd k
 opened_in K s (r ∷ rs) (x ∷ ks) h k = go (same_save s r) refl h (λ g. opened_in K s rs ks g k.4)
@@ -231,7 +231,7 @@ opened_in K s (r ∷ rs) (x ∷ ks) h k = go (same_save s r) refl h (λ g. opene
         }
 
 -- what is kept below a restored save is told by what stands after it
-kept_restored : (K : Shapes) (s : SaveName) (saves : List SaveName) (ks : List (SaveName × Cells)) → AllByRecursion (λ r. later s r ≡ true) saves → SoundKept K saves ks → SoundKept (without_newer s K) saves ks
+kept_restored : (K : Shapes) (s : SaveName) (saves : List SaveName) (ks : List (SaveName × CellMap)) → AllByRecursion (λ r. later s r ≡ true) saves → SoundKept K saves ks → SoundKept (without_newer s K) saves ks
 kept_restored K s [] [] all h = tt
 kept_restored K s [] (k ∷ ks) all h = h
 kept_restored K s (r ∷ rs) [] all h = h
@@ -380,7 +380,7 @@ module _ (W : World) (M : Memory) (s : SoundMemory W M) where
       }
 
   pub after_restore : (r : SaveName) → has_name r W.saves ≡ true → SoundMemory (restored_to r W) (perform (restore r) M)
-  after_restore r h = subst (λ x. SoundMemory (restored_to r W) (put_back r x M)) (sym o.is_copy) (record {
+  after_restore r h = subst (λ x. SoundMemory (restored_to r W) (do_restore r x M)) (sym o.is_copy) (record {
     shapes = λ c. ap shape_in (restored r o.copy M (held c whole)) ∙ shape_here c (is_global c) refl;
     slots = λ c t. subst (FitsFound J t) (sym (restored r o.copy M (held c t))) (slot_here c t (is_global c) refl);
     shared = λ c t g. subst (SharedFound c t) (sym (restored r o.copy M (held c t))) (subst (λ x. SharedFound c t (cond x (at M (held c t)) (in_content (get o.copy c) t))) (sym g) (s.shared c t g));

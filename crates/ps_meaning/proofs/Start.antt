@@ -21,7 +21,7 @@ use Rattle.ps_objects.specs.declared.place.Shape.TheVariants as shape
 use Rattle.ps_objects.specs.declared.settings.Settings.{Settings}
 use Rattle.ps_names.specs.Operators.{operator_names, error_names}
 use Rattle.ps_memory.specs.Order.{cell_cmp, key_cmp}
-use Rattle.ps_memory.specs.Memory.{is_global, Cells, Content, dictionary, items, characters, Memory, Slot, entry, access, item, whole, held, is, object_found, in_content, at, shape_in, shape_at, blank}
+use Rattle.ps_memory.specs.Memory.{is_global, CellMap, Content, dictionary, items, characters, Memory, Slot, entry, access, item, whole, held, is, object_found, in_content, at, shape_in, shape_at, blank}
 use Rattle.ps_memory.specs.Ownership.{same_cell}
 use Rattle.ps_memory.proofs.Order.{cells_total, keys_total, cell_is, cell_itself, key_is}
 use Rattle.ps_meaning.specs.Fits.{Shapes, FitsObject, FitsKey, FitsFound, SharedFound, key_is_shared, value_is_shared}
@@ -44,7 +44,7 @@ found_all {X} P (e ∷ es) all c = go (same_cell c e.0) refl (found_all P es all
     go true h rest = subst (λ d. P d e.1) (sym (cell_is c e.0 h)) all.0
     go false h rest = rest
 
-abbrev start_part : Bool → Cells
+abbrev start_part : Bool → CellMap
 start_part b = cond b (from_entries start_globals) (from_entries start_locals)
 
 -- a fact of each content of the start memory holds of what stands under a cell

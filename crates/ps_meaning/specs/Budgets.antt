@@ -18,18 +18,21 @@ unit_budget Setup = 8000000
 unit_budget Page = 1000000
 unit_budget Trailer = 8000000
 
+-- a show is a page that `showpage` or `copypage` gives out
 abbrev pub show_budget : SectionKind → ℕ
 show_budget Prolog = 4096
 show_budget Setup = 4096
 show_budget Page = 8
 show_budget Trailer = 4096
 
+-- bytes that are said
 abbrev pub message_budget : SectionKind → ℕ
 message_budget Prolog = 16777216
 message_budget Setup = 16777216
 message_budget Page = 1048576
 message_budget Trailer = 16777216
 
+-- nothing is over its budget
 pub record IsInBudget (s : State) : Type 0 where
   pub turns : s.turns ≤ turn_budget s.kind
   pub units : s.units ≤ unit_budget s.kind

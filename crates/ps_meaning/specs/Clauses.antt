@@ -9,7 +9,7 @@ use Rattle.ps_objects.specs.declared.place.Shape.{Shape}
 use Rattle.ps_objects.specs.declared.place.Value.TheVariants as value
 use Rattle.ps_kinds.specs.declared.regs.Regs.{Regs}
 use Rattle.ps_kinds.specs.declared.regs.SaveMark.{SaveMark}
-use Rattle.ps_memory.specs.Memory.{is_global, newer, Cells, Memory, Slot, whole, held, rand, here, in_content, at, shape_in, shape_at, is_kind}
+use Rattle.ps_memory.specs.Memory.{is_global, newer, CellMap, Memory, Slot, whole, held, rand, here, in_content, at, shape_in, shape_at, is_kind}
 use Rattle.ps_meaning.specs.Fits.{Shapes, FitsObject, FitsFound, SharedFound, IsDict}
 use Rattle.ps_meaning.specs.Sound.{StartStands, IsUnique, StringFits}
 use Rattle.ps_meaning.specs.Registers.{FitsState, FitsLayers, HasBottom, SoundState, size_of_page}
@@ -36,19 +36,19 @@ pub record NamesStanding (R : Regs) (M : Memory) : Type 0 where
   pub memory : (c : Cell) (t : Slot) → FitsFound (shape_at M) t (at M (held c t))
 
 -- the shape of a cell in a copy of local memory
-abbrev pub copy_shape : Cells → Cell → Option Shape
+abbrev pub copy_shape : CellMap → Cell → Option Shape
 copy_shape C c = shape_in (in_content (get C c) whole)
 
 -- what stands in a copy, or is global
-abbrev pub shapes_with : Memory → Cells → Shapes
+abbrev pub shapes_with : Memory → CellMap → Shapes
 shapes_with M C c = cond (is_global c) (shape_at M c) (copy_shape C c)
 
 -- what objects in a copy name stands in that copy or is global, with a fitting shape and range
-abbrev pub CopyFits : Memory → SaveName × Cells → Type 0
+abbrev pub CopyFits : Memory → SaveName × CellMap → Type 0
 CopyFits M k = (c : Cell) (t : Slot) → is_global c ≡ false → FitsFound (shapes_with M k.1) t (in_content (get k.1 c) t)
 
 -- the same of the mark of each copy's save; marks stand in the order of the copies
-abbrev pub MarksFit : Memory → List SaveMark → List (SaveName × Cells) → Type 0
+abbrev pub MarksFit : Memory → List SaveMark → List (SaveName × CellMap) → Type 0
 MarksFit M (m ∷ marks) (k ∷ kept) = FitsState (shapes_with M k.1) m.state × FitsLayers (shapes_with M k.1) m.states × MarksFit M marks kept
 MarksFit M _ _ = ⊤
 
@@ -62,20 +62,20 @@ abbrev pub IsShared : Memory → Type 0
 IsShared M = (c : Cell) (t : Slot) → is_global c ≡ true → SharedFound c t (at M (held c t))
 
 -- a local cell of memory that isn't newer than a save stands in its copy, with the same shape
-abbrev pub KeepsOld : Memory → SaveName × Cells → Type 0
+abbrev pub KeepsOld : Memory → SaveName × CellMap → Type 0
 KeepsOld M k = (c : Cell) → is_global c ≡ false → newer c k.0 ≡ false → shape_at M c ≢ None → copy_shape k.1 c ≡ shape_at M c
 
 -- so does one of a later save's copy
-abbrev pub KeepsLater : SaveName × Cells → SaveName × Cells → Type 0
+abbrev pub KeepsLater : SaveName × CellMap → SaveName × CellMap → Type 0
 KeepsLater j k = (c : Cell) → is_global c ≡ false → newer c k.0 ≡ false → copy_shape j.1 c ≢ None → copy_shape k.1 c ≡ copy_shape j.1 c
 
 -- each copy keeps what later ones have; the newest comes first
-abbrev pub AllKeepLater : List (SaveName × Cells) → Type 0
+abbrev pub AllKeepLater : List (SaveName × CellMap) → Type 0
 AllKeepLater [] = ⊤
 AllKeepLater (j ∷ kept) = AllByRecursion (KeepsLater j) kept × AllKeepLater kept
 
 -- a cell of a copy isn't newer than its save, and stands in memory with the same shape
-abbrev pub StillStands : Memory → SaveName × Cells → Type 0
+abbrev pub StillStands : Memory → SaveName × CellMap → Type 0
 StillStands M k = (c : Cell) → is_global c ≡ false → copy_shape k.1 c ≢ None → (newer c k.0 ≡ false) × (shape_at M c ≡ copy_shape k.1 c)
 
 -- 4. Each local cell of memory, or of a later save's copy, that isn't newer than an open save stands in that save's copy with the same
@@ -95,6 +95,7 @@ pub record SavesAgree (R : Regs) (M : Memory) : Type 0 where
 abbrev pub PaperFits : Regs → Memory → Type 0
 PaperFits R M = size_of_page M.page ≡ record { width = R.state.wide; height = R.state.high }
 
+-- registers and a memory that meet the six clauses
 pub record IsSound (R : Regs) (M : Memory) : Type 0 where
   pub memory : IsMemory M
   pub names : NamesStanding R M

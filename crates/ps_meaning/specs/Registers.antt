@@ -20,15 +20,19 @@ pub record FitsState (K : Shapes) (g : GState) : Type 0 where
   pub halftone : FitsObject K g.halftone
   pub font : FitsObject K g.font
 
+-- the objects of the graphics stack
 abbrev pub FitsLayers : Shapes → List Layer → Type 0
 FitsLayers K = AllByRecursion (λ l. FitsState K l.state)
 
+-- the system dictionary (section 3.7.4 of the language manual: standard and user-defined dictionaries)
 abbrev pub system_dict : Cell
 system_dict = record { section = 0; count = 0; space = Global }
 
+-- the global dictionary
 abbrev pub global_dict : Cell
 global_dict = record { section = 0; count = 1; space = Global }
 
+-- the user dictionary
 abbrev pub user_dict : Cell
 user_dict = record { section = 0; count = 2; space = Local }
 
@@ -52,6 +56,7 @@ pub record SoundRegisters (W : World) (R : Regs) : Type 0 where
   pub marks : SoundMarks W.shapes R.saves W.saves
   pub size : W.size ≡ record { width = R.state.wide; height = R.state.high }
 
+-- the size of the paper, also while it is out
 abbrev pub size_of_page : Page → Size
 size_of_page (here p) = size_of p
 size_of_page (out w h) = record { width = w; height = h }

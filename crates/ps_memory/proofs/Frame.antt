@@ -11,7 +11,7 @@ use Rattle.ps_objects.specs.declared.place.Loc.{Loc}
 use Rattle.ps_objects.specs.declared.place.Value.{Value}
 use Rattle.ps_objects.specs.declared.place.Value.TheVariants as value
 use Rattle.ps_objects.specs.declared.place.Shape.{Shape}
-use Rattle.ps_memory.specs.Memory.{is_global, newer, same_save, Content, Cells, Memory, Slot, entry, access, item, whole, Spot, held, byte, rand, paper, spot_of, Found, is, in_content, in_string, part, at, told, keys_of, seen_at, value_at, shape_in, shape_at, standing, shape_of, Action, store, fresh, save, restore, tell, put_content, put_cell, do_store, content_of, do_fresh, copy_named, older_than, put_back, perform}
+use Rattle.ps_memory.specs.Memory.{is_global, newer, same_save, Content, CellMap, Memory, Slot, entry, access, item, whole, Spot, held, byte, rand, paper, spot_of, Found, is, in_content, in_string, part, at, value_found, keys_of, seen_at, value_at, shape_in, shape_at, standing_shape, shape_of, Action, store, fresh, save, restore, tell, put_content, put_cell, do_store, content_of, do_fresh, copy_named, older_than, do_restore, perform}
 use Rattle.ps_memory.specs.Tree.{Tree, ends, looks, acts, asks, Step, looked_at, did, result, trail, after, play}
 use Rattle.ps_memory.specs.Ownership.{same_cell, same_spot, in_cell, is_kept, Owned, nothing_owned, owned_at, saves_before, has_save, own, owns, outer_from, same_loc, is_among, looked_from, outlives}
 use Rattle.ps_memory.specs.Frame.{Allowed, Safe, Kin, FrameLaw}
@@ -24,7 +24,7 @@ abbrev pub AgreeAt : Bool → Found → Found → Found → Found → Type 0
 AgreeAt true a b a₀ b₀ = a ≡ b
 AgreeAt false a b a₀ b₀ = (a ≡ a₀) × (b ≡ b₀)
 
-abbrev pub in_copy : Cells → Spot → Found
+abbrev pub in_copy : CellMap → Spot → Found
 in_copy m (held c t) = in_content (get m c) t
 in_copy m _ = is value.Absent
 
@@ -37,7 +37,7 @@ save_is a b e =
 pub kept_store : (p : Spot) (v : Value) (M : Memory) → (do_store p v M).kept ≡ M.kept
 kept_store (held c s) v M = go (is_global c)
   where
-    f : Cells → Cells
+    f : CellMap → CellMap
     f = put_cell c (put_content s v)
 
     go : (x : Bool) → (cond x (record M { globals = f M.globals }) (record M { locals = f M.locals })).kept ≡ M.kept
@@ -50,7 +50,7 @@ kept_store paper v M = refl
 pub kept_fresh : (c : Cell) (sh : Shape) (M : Memory) → (do_fresh c sh M).kept ≡ M.kept
 kept_fresh c sh M = go (is_global c)
   where
-    f : Cells → Cells
+    f : CellMap → CellMap
     f = λ m. insert m c (content_of sh)
 
     go : (x : Bool) → (cond x (record M { globals = f M.globals }) (record M { locals = f M.locals })).kept ≡ M.kept
@@ -65,11 +65,11 @@ module _ (M₀ N₀ : Memory) where
   abbrev pub NoNewer : (Spot → Bool) → SaveName → Type 0
   NoNewer now s = (c : Cell) (i : ℕ) → newer c s ≡ true → now (byte c i) ≡ false → (at M₀ (byte c i) ≡ is value.Absent) × (at N₀ (byte c i) ≡ is value.Absent)
 
-  abbrev pub AgreeCopies : (Spot → Bool) → Cells → Cells → Type 0
+  abbrev pub AgreeCopies : (Spot → Bool) → CellMap → CellMap → Type 0
   AgreeCopies o C D = (q : Spot) → is_kept q ≡ true → AgreeAt (o q) (in_copy C q) (in_copy D q) (at M₀ q) (at N₀ q)
 
   -- the copies of the trail's own saves
-  abbrev pub AgreeKept : List (SaveName × (Spot → Bool)) → List (SaveName × Cells) → List (SaveName × Cells) → Type 0
+  abbrev pub AgreeKept : List (SaveName × (Spot → Bool)) → List (SaveName × CellMap) → List (SaveName × CellMap) → Type 0
   AgreeKept [] ks ls = ⊤
   AgreeKept (o ∷ saves) (k ∷ ks) (l ∷ ls) = (k.0 ≡ o.0) × (l.0 ≡ o.0) × Whole o.1 × NoNewer o.1 o.0 × AgreeCopies o.1 k.1 l.1 × AgreeKept saves ks ls
   AgreeKept (o ∷ saves) _ _ = ⊥
@@ -113,12 +113,12 @@ module _ (M₀ N₀ : Memory) where
           (λ k. there same k (o.now (held c (entry k))) refl)
 
   -- what is told of a place is told by what stands there, the keys of a dictionary aside
-  same_told_at : (o : Owned) (M N : Memory) (p : Spot) → Together o M N → (o.now p ≡ false → told (at M₀ p) ≡ told (at N₀ p)) → told (at M p) ≡ told (at N p)
+  same_told_at : (o : Owned) (M N : Memory) (p : Spot) → Together o M N → (o.now p ≡ false → value_found (at M₀ p) ≡ value_found (at N₀ p)) → value_found (at M p) ≡ value_found (at N p)
   same_told_at o M N p t h = go (o.now p) refl (t.places p)
     where
-      go : (b : Bool) → o.now p ≡ b → AgreeAt b (at M p) (at N p) (at M₀ p) (at N₀ p) → told (at M p) ≡ told (at N p)
-      go true e a = ap told a
-      go false e a = ap told a.0 ∙ h e ∙ sym (ap told a.1)
+      go : (b : Bool) → o.now p ≡ b → AgreeAt b (at M p) (at N p) (at M₀ p) (at N₀ p) → value_found (at M p) ≡ value_found (at N p)
+      go true e a = ap value_found a
+      go false e a = ap value_found a.0 ∙ h e ∙ sym (ap value_found a.1)
 
   same_seen : (o : Owned) (M N : Memory) (p : Spot) → Together o M N → (o.now p ≡ false → seen_at M₀ p ≡ seen_at N₀ p) → seen_at M p ≡ seen_at N p
   same_seen o M N (held c (entry k)) t h = same_told_at o M N (held c (entry k)) t h
@@ -172,7 +172,7 @@ module _ (M₀ N₀ : Memory) where
       all_of d s true e = refl
       all_of d s false e = t.whole d s e
 
-  at_kept : (M : Memory) (ks : List (SaveName × Cells)) (q : Spot) → at (record M { kept = ks }) q ≡ at M q
+  at_kept : (M : Memory) (ks : List (SaveName × CellMap)) (q : Spot) → at (record M { kept = ks }) q ≡ at M q
   at_kept M ks (held c s) = refl
   at_kept M ks (byte c i) = refl
   at_kept M ks rand = refl
@@ -200,9 +200,9 @@ module _ (M₀ N₀ : Memory) where
       absent_at c i n false e g = (sym g.0 ∙ ap (λ o. in_string o i) (a.0 c n).1, sym g.1 ∙ ap (λ o. in_string o i) (b.0 c n).1)
 
   -- what the two memories keep under a name that the trail opened
-  record Copies (s : SaveName) (saves : List (SaveName × (Spot → Bool))) (ks ls : List (SaveName × Cells)) : Type 0 where
-    copy : Cells
-    other : Cells
+  record Copies (s : SaveName) (saves : List (SaveName × (Spot → Bool))) (ks ls : List (SaveName × CellMap)) : Type 0 where
+    copy : CellMap
+    other : CellMap
     is_copy : copy_named s ks ≡ Some copy
     is_other : copy_named s ls ≡ Some other
     whole : Whole (owned_at s saves)
@@ -210,7 +210,7 @@ module _ (M₀ N₀ : Memory) where
     agree : AgreeCopies (owned_at s saves) copy other
     rest : AgreeKept (saves_before s saves) (older_than s ks) (older_than s ls)
 
-  found : (s : SaveName) (saves : List (SaveName × (Spot → Bool))) (ks ls : List (SaveName × Cells)) → has_save s saves ≡ true → AgreeKept saves ks ls → Copies s saves ks ls
+  found : (s : SaveName) (saves : List (SaveName × (Spot → Bool))) (ks ls : List (SaveName × CellMap)) → has_save s saves ≡ true → AgreeKept saves ks ls → Copies s saves ks ls
   found s [] ks ls h a = absurd (true≢false (sym h))
   found s (o ∷ saves) [] ls h a = absurd a
   found s (o ∷ saves) (k ∷ ks) [] h a = absurd a
@@ -272,7 +272,7 @@ module _ (M₀ N₀ : Memory) where
       byte_at c i true n = gone c i (owned_at s o.saves (byte c i)) n refl
       byte_at c i false n = t.places (byte c i)
 
-      at_place : (q : Spot) → AgreeAt (cond (outlives s q) (o.now q) (owned_at s o.saves q)) (at (put_back s (Some f.copy) M) q) (at (put_back s (Some f.other) N) q) (at M₀ q) (at N₀ q)
+      at_place : (q : Spot) → AgreeAt (cond (outlives s q) (o.now q) (owned_at s o.saves q)) (at (do_restore s (Some f.copy) M) q) (at (do_restore s (Some f.other) N) q) (at M₀ q) (at N₀ q)
       at_place (held c q) = moved _ _ _ (restored s f.copy M (held c q)) (restored s f.other N (held c q)) (held_at c q (is_global c) refl)
       at_place (byte c i) = moved _ _ _ (restored s f.copy M (byte c i)) (restored s f.other N (byte c i)) (byte_at c i (newer c s) refl)
       at_place rand = moved _ _ _ (restored s f.copy M rand) (restored s f.other N rand) (t.places rand)
@@ -328,7 +328,7 @@ module _ (M₀ N₀ : Memory) where
       let (a, b) = run u (own w o) (perform w M) (perform w N) (together_act o M N w t s.0 r.0 split.0) s.1 r.1 k split.1 each in
       (a, ap (λ tr. did w ∷ tr) b)
   run (asks c f) o M N t s r k out each =
-      let same = ap standing (same_shape o M N c t k s.0 r.0) in
+      let same = ap standing_shape (same_shape o M N c t k s.0 r.0) in
       let (a, b) = run (f (shape_of M c)) o M N t s.1 (subst (λ v. Safe (f v) N) (sym same) r.1) k out each in
       (subst (λ v. result (f v) N ≡ result (f (shape_of M c)) M) same a, subst (λ v. trail (f v) N ≡ trail (f (shape_of M c)) M) same b)
 

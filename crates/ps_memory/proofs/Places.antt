@@ -13,7 +13,7 @@ use Rattle.ps_objects.specs.declared.place.Value.TheVariants as value
 use Rattle.ps_objects.specs.declared.place.Shape.{Shape}
 use Rattle.ps_objects.specs.declared.place.Shape.TheVariants as shape
 use Rattle.ps_memory.specs.Order.{cell_cmp, key_cmp}
-use Rattle.ps_memory.specs.Memory.{is_global, newer, Content, dictionary, items, characters, Cells, Memory, Slot, entry, access, item, whole, Spot, held, byte, rand, paper, Found, is, shaped, object_found, byte_found, page_found, in_content, in_string, part, at, put_entry, put_item, put_content, put_byte, put_cell, with_part, do_store, content_of, new_bytes, do_fresh, put_back}
+use Rattle.ps_memory.specs.Memory.{is_global, newer, Content, dictionary, items, characters, CellMap, Memory, Slot, entry, access, item, whole, Spot, held, byte, rand, paper, Found, is, shaped, object_found, byte_found, page_found, in_content, in_string, part, at, put_entry, put_item, put_content, put_byte, put_cell, with_part, do_store, content_of, new_bytes, do_fresh, do_restore}
 use Rattle.ps_memory.specs.Ownership.{same_cell, same_slot, same_spot, in_cell}
 use Rattle.ps_memory.proofs.Order.{cells_total, keys_total, cell_is, cell_itself, key_is}
 
@@ -36,7 +36,7 @@ spot_is _ _ e = absurd (true≢false (sym e))
 
 -- ---- parts
 
-pub part_other : (c d : Cell) (f : Cells → Cells) (M : Memory) → ((m : Cells) → get (f m) d ≡ get m d) → get (part (with_part M c f) d) d ≡ get (part M d) d
+pub part_other : (c d : Cell) (f : CellMap → CellMap) (M : Memory) → ((m : CellMap) → get (f m) d ≡ get m d) → get (part (with_part M c f) d) d ≡ get (part M d) d
 part_other c d f M h = go (is_global c) (is_global d)
   where
     go : (x y : Bool) → get (cond y (cond x (record M { globals = f M.globals }) (record M { locals = f M.locals })).globals (cond x (record M { globals = f M.globals }) (record M { locals = f M.locals })).locals) d ≡ get (cond y M.globals M.locals) d
@@ -45,28 +45,28 @@ part_other c d f M h = go (is_global c) (is_global d)
     go false true = refl
     go false false = h M.locals
 
-pub part_here : (c : Cell) (f : Cells → Cells) (M : Memory) → part (with_part M c f) c ≡ f (part M c)
+pub part_here : (c : Cell) (f : CellMap → CellMap) (M : Memory) → part (with_part M c f) c ≡ f (part M c)
 part_here c f M = go (is_global c)
   where
     go : (x : Bool) → cond x (cond x (record M { globals = f M.globals }) (record M { locals = f M.locals })).globals (cond x (record M { globals = f M.globals }) (record M { locals = f M.locals })).locals ≡ f (cond x M.globals M.locals)
     go true = refl
     go false = refl
 
-pub part_strings : (c : Cell) (f : Cells → Cells) (M : Memory) → (with_part M c f).strings ≡ M.strings
+pub part_strings : (c : Cell) (f : CellMap → CellMap) (M : Memory) → (with_part M c f).strings ≡ M.strings
 part_strings c f M = go (is_global c)
   where
     go : (x : Bool) → (cond x (record M { globals = f M.globals }) (record M { locals = f M.locals })).strings ≡ M.strings
     go true = refl
     go false = refl
 
-pub part_rand : (c : Cell) (f : Cells → Cells) (M : Memory) → (with_part M c f).rand ≡ M.rand
+pub part_rand : (c : Cell) (f : CellMap → CellMap) (M : Memory) → (with_part M c f).rand ≡ M.rand
 part_rand c f M = go (is_global c)
   where
     go : (x : Bool) → (cond x (record M { globals = f M.globals }) (record M { locals = f M.locals })).rand ≡ M.rand
     go true = refl
     go false = refl
 
-pub part_page : (c : Cell) (f : Cells → Cells) (M : Memory) → (with_part M c f).page ≡ M.page
+pub part_page : (c : Cell) (f : CellMap → CellMap) (M : Memory) → (with_part M c f).page ≡ M.page
 part_page c f M = go (is_global c)
   where
     go : (x : Bool) → (cond x (record M { globals = f M.globals }) (record M { locals = f M.locals })).page ≡ M.page
@@ -145,10 +145,10 @@ slot_other (item i) t v (dictionary n a es) e = refl
 slot_other (item i) t v (characters n) e = refl
 slot_other whole t v x e = refl
 
-in_put : (c : Cell) (s t : Slot) (v : Value) (m : Cells) → same_slot s t ≡ false → in_content (get (put_cell c (put_content s v) m) c) t ≡ in_content (get m c) t
+in_put : (c : Cell) (s t : Slot) (v : Value) (m : CellMap) → same_slot s t ≡ false → in_content (get (put_cell c (put_content s v) m) c) t ≡ in_content (get m c) t
 in_put c s t v m e = go (get m c) refl
   where
-    go : (o : Option Content) → get m c ≡ o → in_content (get (elim o as (λ _. Cells) [ None ↦ m | Some x ↦ insert m c (put_content s v x) ]) c) t ≡ in_content o t
+    go : (o : Option Content) → get m c ≡ o → in_content (get (elim o as (λ _. CellMap) [ None ↦ m | Some x ↦ insert m c (put_content s v x) ]) c) t ≡ in_content o t
     go None h = ap (λ o. in_content o t) h
     go (Some x) h = ap (λ o. in_content o t) (insert_here c (put_content s v x) m) ∙ slot_other s t v x e
 
@@ -241,7 +241,7 @@ pub kept_at : {X : Type 0} (s : SaveName) (d : Cell) (m : FinMap cell_cmp X) →
 kept_at s d m = get-retain_keys m (λ c. not (newer c s)) d (λ x h. ap (λ c. not (newer c s)) (sym (cell_is d x (ap is_eq h))))
 
 -- the local part is the copy's; strings newer than the save are gone; all else stays
-pub restored : (s : SaveName) (copy : Cells) (M : Memory) (q : Spot) → at (put_back s (Some copy) M) q ≡ elim q as (λ _. Found) [
+pub restored : (s : SaveName) (copy : CellMap) (M : Memory) (q : Spot) → at (do_restore s (Some copy) M) q ≡ elim q as (λ _. Found) [
   | held c t ↦ cond (is_global c) (at M (held c t)) (in_content (get copy c) t)
   | byte c j ↦ cond (newer c s) (is value.Absent) (at M (byte c j))
   | rand ↦ at M rand

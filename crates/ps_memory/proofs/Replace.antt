@@ -15,10 +15,10 @@ use Rattle.ps_objects.specs.declared.place.Value.TheVariants as value
 use Rattle.ps_objects.specs.declared.place.Shape.{Shape}
 use Rattle.ps_objects.specs.declared.place.Shape.TheVariants as shape
 use Rattle.ps_memory.specs.Order.{cell_cmp, key_cmp}
-use Rattle.ps_memory.specs.Memory.{is_global, newer, Content, dictionary, items, characters, Cells, Memory, Slot, entry, access, item, whole, Spot, held, byte, rand, paper, spot_of, part, shape_in, is_slot, is_byte, is_place, is_kind, Action, store, fresh, save, restore, tell, put_entry, put_item, put_content, put_byte, put_cell, with_part, do_store, content_of, new_bytes, do_fresh, perform}
+use Rattle.ps_memory.specs.Memory.{is_global, newer, Content, dictionary, items, characters, CellMap, Memory, Slot, entry, access, item, whole, Spot, held, byte, rand, paper, spot_of, part, shape_in, is_slot, is_byte, is_place, is_kind, Action, store, fresh, save, restore, tell, put_entry, put_item, put_content, put_byte, put_cell, with_part, do_store, content_of, new_bytes, do_fresh, perform}
 use Rattle.ps_memory.specs.Ownership.{same_cell, same_slot, same_spot, in_cell, outlives}
 use Rattle.ps_memory.specs.Frame.{later, Allowed}
-use Rattle.ps_memory.specs.Writes.{apply, is_write, Applicable, replaced, note, ReplacingLaw}
+use Rattle.ps_memory.specs.Writes.{apply, is_write, Applicable, store_replaced, note, ReplacingLaw}
 use Rattle.ps_memory.proofs.Order.{cells_total, cells_antisymmetric, keys_total, keys_antisymmetric, cell_is, cell_itself, key_is}
 use Rattle.ps_memory.proofs.Places.{spot_is, part_other, part_strings, mapped, put_at, insert_other, length_put, length_set, string_fresh_other, store_other}
 use Rattle.ps_memory.proofs.Stored.{held_store, no_shape}
@@ -202,7 +202,7 @@ content_over c whole v w x h = refl
 
 -- ---- memories
 
-parts_swap : (c d : Cell) (F G : Cells → Cells) (M : Memory) → ((m : Cells) → F (G m) ≡ G (F m)) → with_part (with_part M d G) c F ≡ with_part (with_part M c F) d G
+parts_swap : (c d : Cell) (F G : CellMap → CellMap) (M : Memory) → ((m : CellMap) → F (G m) ≡ G (F m)) → with_part (with_part M d G) c F ≡ with_part (with_part M c F) d G
 parts_swap c d F G M h = go (is_global c) (is_global d)
   where
     go : (x y : Bool)
@@ -215,7 +215,7 @@ parts_swap c d F G M h = go (is_global c) (is_global d)
     go false true = refl
     go false false = ap (λ m. record M { locals = m }) (h M.locals)
 
-parts_over : (c : Cell) (F G : Cells → Cells) (M : Memory) → ((m : Cells) → F (G m) ≡ F m) → with_part (with_part M c G) c F ≡ with_part M c F
+parts_over : (c : Cell) (F G : CellMap → CellMap) (M : Memory) → ((m : CellMap) → F (G m) ≡ F m) → with_part (with_part M c G) c F ≡ with_part M c F
 parts_over c F G M h = go (is_global c)
   where
     go : (x : Bool)
@@ -225,7 +225,7 @@ parts_over c F G M h = go (is_global c)
     go true = ap (λ m. record M { globals = m }) (h M.globals)
     go false = ap (λ m. record M { locals = m }) (h M.locals)
 
-part_then_strings : (c : Cell) (F : Cells → Cells) (f : FinMap cell_cmp (List ℕ) → FinMap cell_cmp (List ℕ)) (M : Memory)
+part_then_strings : (c : Cell) (F : CellMap → CellMap) (f : FinMap cell_cmp (List ℕ) → FinMap cell_cmp (List ℕ)) (M : Memory)
     → with_part (record M { strings = f M.strings }) c F ≡ record (with_part M c F) { strings = f (with_part M c F).strings }
 part_then_strings c F f M = go (is_global c)
   where
@@ -234,7 +234,7 @@ part_then_strings c F f M = go (is_global c)
     go true = refl
     go false = refl
 
-part_then_rand : (c : Cell) (F : Cells → Cells) (v : Value) (M : Memory) → with_part (do_store rand v M) c F ≡ do_store rand v (with_part M c F)
+part_then_rand : (c : Cell) (F : CellMap → CellMap) (v : Value) (M : Memory) → with_part (do_store rand v M) c F ≡ do_store rand v (with_part M c F)
 part_then_rand c F v M = go (is_global c)
   where
     go : (x : Bool) → cond x (record (do_store rand v M) { globals = F M.globals }) (record (do_store rand v M) { locals = F M.locals })
@@ -242,7 +242,7 @@ part_then_rand c F v M = go (is_global c)
     go true = refl
     go false = refl
 
-part_then_paper : (c : Cell) (F : Cells → Cells) (v : Value) (M : Memory) → with_part (do_store paper v M) c F ≡ do_store paper v (with_part M c F)
+part_then_paper : (c : Cell) (F : CellMap → CellMap) (v : Value) (M : Memory) → with_part (do_store paper v M) c F ≡ do_store paper v (with_part M c F)
 part_then_paper c F v M = go (is_global c)
   where
     go : (x : Bool) → cond x (record (do_store paper v M) { globals = F M.globals }) (record (do_store paper v M) { locals = F M.locals })
@@ -294,15 +294,15 @@ fresh_swap c sh (held d t) v M h =
     (λ i. record (parts_swap c d I G M (λ m. insert_swap c d (content_of sh) (put_content t v) m h) i) { strings = new_bytes c sh (part_strings d G M i) })
     ∙ sym (part_then_strings d G (λ m. new_bytes c sh M.strings) (with_part M c I))
   where
-    I : Cells → Cells
+    I : CellMap → CellMap
     I = λ m. insert m c (content_of sh)
 
-    G : Cells → Cells
+    G : CellMap → CellMap
     G = put_cell d (put_content t v)
 fresh_swap c sh (byte d i) v M h =
     (λ j. record (part_then_strings c I (put_cell d (put_byte i v)) M j) { strings = new_swap c d sh (put_byte i v) M.strings h j })
   where
-    I : Cells → Cells
+    I : CellMap → CellMap
     I = λ m. insert m c (content_of sh)
 fresh_swap c sh rand v M h = λ i. record (part_then_rand c (λ m. insert m c (content_of sh)) v M i) { strings = new_bytes c sh M.strings }
 fresh_swap c sh paper v M h = λ i. record (part_then_paper c (λ m. insert m c (content_of sh)) v M i) { strings = new_bytes c sh M.strings }
@@ -310,7 +310,7 @@ fresh_swap c sh paper v M h = λ i. record (part_then_paper c (λ m. insert m c 
 pub save_swap : (s : SaveName) (p : Spot) (v : Value) (M : Memory) → outlives s p ≡ true → perform (save s) (do_store p v M) ≡ do_store p v (perform (save s) M)
 save_swap s (held c t) v M h = go (is_global c) h
   where
-    F : Cells → Cells
+    F : CellMap → CellMap
     F = put_cell c (put_content t v)
 
     go : (x : Bool) → x ≡ true → perform (save s) (cond x (record M { globals = F M.globals }) (record M { locals = F M.locals }))
@@ -430,7 +430,7 @@ abbrev IfFound : Loc → Value → List Action → Memory → Option (List Actio
 IfFound l v ws N None = ⊤
 IfFound l v ws N (Some us) = Does l v ws us N
 
-in_place : (l : Loc) (v : Value) (ws : List Action) (N : Memory) → Applicable ws N → is_place (apply ws N) (spot_of l) ≡ true → is_kind (spot_of l) v ≡ true → IfFound l v ws N (replaced l v ws)
+in_place : (l : Loc) (v : Value) (ws : List Action) (N : Memory) → Applicable ws N → is_place (apply ws N) (spot_of l) ≡ true → is_kind (spot_of l) v ≡ true → IfFound l v ws N (store_replaced l v ws)
 in_place l v [] N f h i = tt
 in_place l v (store k w ∷ ws) N f h i = go (same_spot (spot_of k) (spot_of l)) refl (λ here. in_place l v ws N f.2 here i)
   where
@@ -448,7 +448,7 @@ in_place l v (store k w ∷ ws) N f h i = go (same_spot (spot_of k) (spot_of l))
       saves = g.saves;
     }
 
-    go : (b : Bool) → same_spot (spot_of k) (spot_of l) ≡ b → (is_place (apply ws N) (spot_of l) ≡ true → IfFound l v ws N (replaced l v ws)) → IfFound l v (store k w ∷ ws) N (cond b (Some (store k v ∷ ws)) (option_map (λ us. store k w ∷ us) (replaced l v ws)))
+    go : (b : Bool) → same_spot (spot_of k) (spot_of l) ≡ b → (is_place (apply ws N) (spot_of l) ≡ true → IfFound l v ws N (store_replaced l v ws)) → IfFound l v (store k w ∷ ws) N (cond b (Some (store k v ∷ ws)) (option_map (λ us. store k w ∷ us) (store_replaced l v ws)))
     go true e ih =
         let p = spot_is (spot_of k) (spot_of l) e in
         record {
@@ -456,7 +456,7 @@ in_place l v (store k w ∷ ws) N f h i = go (same_spot (spot_of k) (spot_of l))
           applicable = (refl, (ap (is_place M) p ∙ here, ap (λ q. is_kind q v) p ∙ i), f.2);
           saves = refl;
         }
-    go false e ih = passed e (replaced l v ws) (ih here)
+    go false e ih = passed e (store_replaced l v ws) (ih here)
 in_place l v (fresh c sh ∷ ws) N f h i = go (in_cell c (spot_of l)) refl (λ here. in_place l v ws N f.2 here i)
   where
     M : Memory
@@ -470,9 +470,9 @@ in_place l v (fresh c sh ∷ ws) N f h i = go (in_cell c (spot_of l)) refl (λ h
       saves = g.saves;
     }
 
-    go : (b : Bool) → in_cell c (spot_of l) ≡ b → (is_place (apply ws N) (spot_of l) ≡ true → IfFound l v ws N (replaced l v ws)) → IfFound l v (fresh c sh ∷ ws) N (cond b None (option_map (λ us. fresh c sh ∷ us) (replaced l v ws)))
+    go : (b : Bool) → in_cell c (spot_of l) ≡ b → (is_place (apply ws N) (spot_of l) ≡ true → IfFound l v ws N (store_replaced l v ws)) → IfFound l v (fresh c sh ∷ ws) N (cond b None (option_map (λ us. fresh c sh ∷ us) (store_replaced l v ws)))
     go true e ih = tt
-    go false e ih = let here = sym (place_fresh c sh (spot_of l) M e) ∙ h in passed e here (replaced l v ws) (ih here)
+    go false e ih = let here = sym (place_fresh c sh (spot_of l) M e) ∙ h in passed e here (store_replaced l v ws) (ih here)
 in_place l v (save s ∷ ws) N f h i = go (outlives s (spot_of l)) refl (λ here. in_place l v ws N f.2 here i)
   where
     M : Memory
@@ -489,14 +489,14 @@ in_place l v (save s ∷ ws) N f h i = go (outlives s (spot_of l)) refl (λ here
       saves = ap (λ rs. s ∷ rs) g.saves;
     }
 
-    go : (b : Bool) → outlives s (spot_of l) ≡ b → (is_place (apply ws N) (spot_of l) ≡ true → IfFound l v ws N (replaced l v ws)) → IfFound l v (save s ∷ ws) N (cond b (option_map (λ us. save s ∷ us) (replaced l v ws)) None)
-    go true e ih = passed e (replaced l v ws) (ih here)
+    go : (b : Bool) → outlives s (spot_of l) ≡ b → (is_place (apply ws N) (spot_of l) ≡ true → IfFound l v ws N (store_replaced l v ws)) → IfFound l v (save s ∷ ws) N (cond b (option_map (λ us. save s ∷ us) (store_replaced l v ws)) None)
+    go true e ih = passed e (store_replaced l v ws) (ih here)
     go false e ih = tt
 in_place l v (restore s ∷ ws) N f h i = tt
 in_place l v (tell o ∷ ws) N f h i = tt
 
 pub noted_store : (l : Loc) (v : Value) (ws : List Action) (N : Memory) → Applicable ws N → Allowed (store l v) (apply ws N) → Does l v ws (note (store l v) ws) N
-noted_store l v ws N f a = go (replaced l v ws) (in_place l v ws N f a.0 a.1)
+noted_store l v ws N f a = go (store_replaced l v ws) (in_place l v ws N f a.0 a.1)
   where
     go : (o : Option (List Action)) → IfFound l v ws N o → Does l v ws (elim o as (λ _. List Action) [ None ↦ store l v ∷ ws | Some us ↦ us ]) N
     go None g = record { same = refl; applicable = (refl, a, f); saves = refl }

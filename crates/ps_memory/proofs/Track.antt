@@ -5,7 +5,7 @@ use Rattle.ps_memory.specs.Memory.{Memory, value_at, shape_of, store, fresh, sav
 use Rattle.ps_memory.specs.Tree.{Tree, ends, looks, acts, asks, Step, trail}
 use Rattle.ps_memory.specs.Ownership.{has_save, owns, same_loc, is_among, looked_from, outer_from}
 use Rattle.ps_memory.specs.Writes.{writes_from}
-use Rattle.ps_memory.specs.Track.{Track, saw, acted, track_on, outer_on, nothing_tracked, TrackLaw}
+use Rattle.ps_memory.specs.Track.{Track, saw, track_acted, track_on, outer_on, nothing_tracked, TrackLaw}
 
 abbrev Alike : List Loc → List Loc → Type 0
 Alike xs ys = (l : Loc) → is_among l xs ≡ is_among l ys
@@ -21,7 +21,7 @@ in_end l k (x ∷ xs) = ap (λ b. same_loc l x || b) (in_end l k xs) ∙ or_swap
 
 seen_by : {A : Type 0} (t : Tree A) (M : Memory) (k : Track) (known : List Loc) → Alike k.seen known → (track_on t M k).seen ≡ k.seen ++ looked_from k.owned known (trail t M)
 seen_by (ends a) M k known h = sym (append-nil k.seen)
-seen_by (acts w t) M k known h = seen_by t (perform w M) (acted w k) known h
+seen_by (acts w t) M k known h = seen_by t (perform w M) (track_acted w k) known h
 seen_by (asks c f) M k known h = seen_by (f (shape_of M c)) M k known h
 seen_by (looks l f) M k known h =
     go (owns k.owned l || is_among l k.seen) (λ seen known h. seen_by (f (value_at M l)) M (record { owned = k.owned; seen = seen; written = k.written }) known h)
@@ -42,17 +42,17 @@ seen_by (looks l f) M k known h =
 written_by : {A : Type 0} (t : Tree A) (M : Memory) (k : Track) → (track_on t M k).written ≡ writes_from k.written (trail t M)
 written_by (ends a) M k = refl
 written_by (looks l f) M k = written_by (f (value_at M l)) M (saw l k)
-written_by (acts w t) M k = written_by t (perform w M) (acted w k)
+written_by (acts w t) M k = written_by t (perform w M) (track_acted w k)
 written_by (asks c f) M k = written_by (f (shape_of M c)) M k
 
 outer_by : {A : Type 0} (t : Tree A) (M : Memory) (k : Track) → outer_on t M k ≡ outer_from k.owned (trail t M)
 outer_by (ends a) M k = refl
 outer_by (looks l f) M k = outer_by (f (value_at M l)) M (saw l k)
-outer_by (acts (restore s) t) M k = ap (λ o. cond (has_save s k.owned.saves) o (Some s)) (outer_by t (perform (restore s) M) (acted (restore s) k))
-outer_by (acts (store l v) t) M k = outer_by t (perform (store l v) M) (acted (store l v) k)
-outer_by (acts (fresh c sh) t) M k = outer_by t (perform (fresh c sh) M) (acted (fresh c sh) k)
-outer_by (acts (save s) t) M k = outer_by t (perform (save s) M) (acted (save s) k)
-outer_by (acts (tell o) t) M k = outer_by t M (acted (tell o) k)
+outer_by (acts (restore s) t) M k = ap (λ o. cond (has_save s k.owned.saves) o (Some s)) (outer_by t (perform (restore s) M) (track_acted (restore s) k))
+outer_by (acts (store l v) t) M k = outer_by t (perform (store l v) M) (track_acted (store l v) k)
+outer_by (acts (fresh c sh) t) M k = outer_by t (perform (fresh c sh) M) (track_acted (fresh c sh) k)
+outer_by (acts (save s) t) M k = outer_by t (perform (save s) M) (track_acted (save s) k)
+outer_by (acts (tell o) t) M k = outer_by t M (track_acted (tell o) k)
 outer_by (asks c f) M k = outer_by (f (shape_of M c)) M k
 
 pub track_law : (A : Type 0) → TrackLaw A

@@ -9,10 +9,10 @@ use Rattle.ps_objects.specs.declared.place.Value.{Value}
 use Rattle.ps_objects.specs.declared.place.Shape.{Shape}
 use Rattle.ps_objects.specs.declared.place.Shape.TheVariants as shape
 use Rattle.ps_memory.specs.Order.{cell_cmp}
-use Rattle.ps_memory.specs.Memory.{is_global, newer, same_save, Content, dictionary, items, characters, Cells, Memory, whole, Spot, held, byte, rand, paper, spot_of, in_content, shape_in, is_slot, is_byte, is_place, Action, store, fresh, save, restore, tell, put_content, put_byte, put_cell, do_store, content_of, new_bytes, do_fresh, copy_named, older_than, put_back, perform}
+use Rattle.ps_memory.specs.Memory.{is_global, newer, same_save, Content, dictionary, items, characters, CellMap, Memory, whole, Spot, held, byte, rand, paper, spot_of, in_content, shape_in, is_slot, is_byte, is_place, Action, store, fresh, save, restore, tell, put_content, put_byte, put_cell, do_store, content_of, new_bytes, do_fresh, copy_named, older_than, do_restore, perform}
 use Rattle.ps_memory.specs.Ownership.{same_cell, outlives}
 use Rattle.ps_memory.specs.Frame.{IsUnused}
-use Rattle.ps_memory.specs.Writes.{apply, Applicable, undo, is_open, RestoringLaw}
+use Rattle.ps_memory.specs.Writes.{apply, Applicable, writes_left, is_open, RestoringLaw}
 use Rattle.ps_memory.proofs.Order.{cells_total}
 use Rattle.ps_memory.proofs.Places.{kept_at, put_other, put_at, mapped, string_fresh_other, restored}
 use Rattle.ps_memory.proofs.Frame.{save_is, kept_store, kept_fresh}
@@ -25,16 +25,16 @@ keep_new s c (shape.Str n) m h = keep_insert s c (replicate n 0) m h
 
 -- ---- a restore after an action
 
-back_store : (s : SaveName) (C : Cells) (p : Spot) (v : Value) (M : Memory) → put_back s (Some C) (do_store p v M) ≡ cond (outlives s p) (do_store p v (put_back s (Some C) M)) (put_back s (Some C) M)
+back_store : (s : SaveName) (C : CellMap) (p : Spot) (v : Value) (M : Memory) → do_restore s (Some C) (do_store p v M) ≡ cond (outlives s p) (do_store p v (do_restore s (Some C) M)) (do_restore s (Some C) M)
 back_store s C (held c t) v M = go (is_global c)
   where
-    f : Cells → Cells
+    f : CellMap → CellMap
     f = put_cell c (put_content t v)
 
     R : Memory
-    R = put_back s (Some C) M
+    R = do_restore s (Some C) M
 
-    go : (x : Bool) → put_back s (Some C) (cond x (record M { globals = f M.globals }) (record M { locals = f M.locals })) ≡ cond x (cond x (record R { globals = f R.globals }) (record R { locals = f R.locals })) R
+    go : (x : Bool) → do_restore s (Some C) (cond x (record M { globals = f M.globals }) (record M { locals = f M.locals })) ≡ cond x (cond x (record R { globals = f R.globals }) (record R { locals = f R.locals })) R
     go true = refl
     go false = refl
 back_store s C (byte c i) v M = go (newer c s) refl
@@ -43,7 +43,7 @@ back_store s C (byte c i) v M = go (newer c s) refl
     f = put_byte i v
 
     R : Memory
-    R = put_back s (Some C) M
+    R = do_restore s (Some C) M
 
     go : (x : Bool) → newer c s ≡ x → record R { strings = keep s (put_cell c f M.strings) } ≡ cond (not x) (record R { strings = put_cell c f R.strings }) R
     go true e = ap (λ m. record R { strings = m }) (keep_change s c M.strings (put_cell c f M.strings) e (λ d h. put_other c d f M.strings h))
@@ -51,19 +51,19 @@ back_store s C (byte c i) v M = go (newer c s) refl
 back_store s C rand v M = refl
 back_store s C paper v M = refl
 
-back_fresh : (s : SaveName) (C : Cells) (c : Cell) (sh : Shape) (M : Memory) → (is_global c ≡ false → newer c s ≡ true) → put_back s (Some C) (do_fresh c sh M) ≡ cond (is_global c) (do_fresh c sh (put_back s (Some C) M)) (put_back s (Some C) M)
+back_fresh : (s : SaveName) (C : CellMap) (c : Cell) (sh : Shape) (M : Memory) → (is_global c ≡ false → newer c s ≡ true) → do_restore s (Some C) (do_fresh c sh M) ≡ cond (is_global c) (do_fresh c sh (do_restore s (Some C) M)) (do_restore s (Some C) M)
 back_fresh s C c sh M h = go (is_global c) refl
   where
-    f : Cells → Cells
+    f : CellMap → CellMap
     f = λ m. insert m c (content_of sh)
 
     R : Memory
-    R = put_back s (Some C) M
+    R = do_restore s (Some C) M
 
     new : FinMap cell_cmp (List ℕ)
     new = new_bytes c sh M.strings
 
-    go : (x : Bool) → is_global c ≡ x → put_back s (Some C) (record (cond x (record M { globals = f M.globals }) (record M { locals = f M.locals })) { strings = new })
+    go : (x : Bool) → is_global c ≡ x → do_restore s (Some C) (record (cond x (record M { globals = f M.globals }) (record M { locals = f M.locals })) { strings = new })
         ≡ cond x (record (cond x (record R { globals = f R.globals }) (record R { locals = f R.locals })) { strings = new_bytes c sh R.strings }) R
     go true e = ap (λ m. record (record R { globals = f M.globals }) { strings = m }) (keep_new s c sh M.strings (ap (λ g. not g && is_gt (ordering_then (nat_cmp c.section s.section) (nat_cmp c.count s.count))) e))
     go false e = ap (λ m. record R { strings = m }) (keep_change s c M.strings new (h e) (λ d g. string_fresh_other c d sh M.strings g))
@@ -91,7 +91,7 @@ stands_store paper v M d h = h
 stands_fresh : (c : Cell) (sh : Shape) (M : Memory) (d : Cell) → get (do_fresh c sh M).locals d ≡ None → get M.locals d ≡ None
 stands_fresh c sh M d h = go (is_global c) h
   where
-    f : Cells → Cells
+    f : CellMap → CellMap
     f = λ m. insert m c (content_of sh)
 
     inserted : (b : Bool) → cond b (Some (content_of sh)) (get M.locals d) ≡ None → get M.locals d ≡ None
@@ -107,7 +107,7 @@ stands_fresh c sh M d h = go (is_global c) h
 
 -- the copy under a name that the writes opened: each of its cells still stands
 record Opened (s : SaveName) (M : Memory) : Type 0 where
-  copy : Cells
+  copy : CellMap
   named : copy_named s M.kept ≡ Some copy
   within : (c : Cell) → get M.locals c ≡ None → get copy c ≡ None
 
@@ -130,7 +130,7 @@ opened s (store l v ∷ ws) N f h =
 opened s (restore r ∷ ws) N f h = absurd (true≢false (sym f.0))
 opened s (tell x ∷ ws) N f h = absurd (true≢false (sym f.0))
 
-newer_than_named : (s : SaveName) (c : Cell) (ks : List (SaveName × Cells)) (C : Cells) → AllByRecursion (λ k. newer c k.0 ≡ true) ks → copy_named s ks ≡ Some C → newer c s ≡ true
+newer_than_named : (s : SaveName) (c : Cell) (ks : List (SaveName × CellMap)) (C : CellMap) → AllByRecursion (λ k. newer c k.0 ≡ true) ks → copy_named s ks ≡ Some C → newer c s ≡ true
 newer_than_named s c [] C all e = cc
 newer_than_named s c (k ∷ ks) C all e = go (same_save s k.0) refl e (newer_than_named s c ks C all.1)
   where
@@ -142,44 +142,44 @@ newer_than_named s c (k ∷ ks) C all e = go (same_save s k.0) refl e (newer_tha
 pub newer_than_open : (s : SaveName) (c : Cell) (ws : List Action) (N : Memory) → Applicable ws N → is_open s ws ≡ true → AllByRecursion (λ k. newer c k.0 ≡ true) (apply ws N).kept → newer c s ≡ true
 newer_than_open s c ws N f h all = let o = opened s ws N f h in newer_than_named s c (apply ws N).kept o.copy all o.named
 
-pub undone : (s : SaveName) (ws : List Action) (N : Memory) → Applicable ws N → is_open s ws ≡ true → perform (restore s) (apply ws N) ≡ apply (undo s ws) N
+pub undone : (s : SaveName) (ws : List Action) (N : Memory) → Applicable ws N → is_open s ws ≡ true → perform (restore s) (apply ws N) ≡ apply (writes_left s ws) N
 undone s [] N f h = absurd (true≢false (sym h))
 undone s (save r ∷ ws) N f h = go (same_save s r) refl h (undone s ws N f.2)
   where
     M : Memory
     M = apply ws N
 
-    go : (x : Bool) → same_save s r ≡ x → cond x true (is_open s ws) ≡ true → (is_open s ws ≡ true → put_back s (copy_named s M.kept) M ≡ apply (undo s ws) N)
-        → put_back s (cond (same_save s r) (Some M.locals) (copy_named s M.kept)) (record M { kept = (r, M.locals) ∷ M.kept }) ≡ apply (cond x ws (undo s ws)) N
+    go : (x : Bool) → same_save s r ≡ x → cond x true (is_open s ws) ≡ true → (is_open s ws ≡ true → do_restore s (copy_named s M.kept) M ≡ apply (writes_left s ws) N)
+        → do_restore s (cond (same_save s r) (Some M.locals) (copy_named s M.kept)) (record M { kept = (r, M.locals) ∷ M.kept }) ≡ apply (cond x ws (writes_left s ws)) N
     go true e h ih =
-        ap (λ x. put_back s (cond x (Some M.locals) (copy_named s M.kept)) (record M { kept = (r, M.locals) ∷ M.kept })) e
+        ap (λ x. do_restore s (cond x (Some M.locals) (copy_named s M.kept)) (record M { kept = (r, M.locals) ∷ M.kept })) e
         ∙ ap (λ x. record M { strings = keep s M.strings; kept = cond x M.kept (older_than s M.kept) }) e
         ∙ ap (λ m. record M { strings = m }) (keep_all s M.strings (λ c n. (f.1.0 c (ap (newer c) (sym (save_is s r e)) ∙ n)).1))
     go false e h ih =
         let o = opened s ws N f.2 h in
-        ap (λ x. put_back s (cond x (Some M.locals) (copy_named s M.kept)) (record M { kept = (r, M.locals) ∷ M.kept })) e
-        ∙ ap (λ o. put_back s o (record M { kept = (r, M.locals) ∷ M.kept })) o.named
+        ap (λ x. do_restore s (cond x (Some M.locals) (copy_named s M.kept)) (record M { kept = (r, M.locals) ∷ M.kept })) e
+        ∙ ap (λ o. do_restore s o (record M { kept = (r, M.locals) ∷ M.kept })) o.named
         ∙ ap (λ x. record M { locals = o.copy; strings = keep s M.strings; kept = cond x M.kept (older_than s M.kept) }) e
-        ∙ ap (λ o. put_back s o M) (sym o.named)
+        ∙ ap (λ o. do_restore s o M) (sym o.named)
         ∙ ih h
 undone s (fresh c sh ∷ ws) N f h =
     let o = opened s ws N f.2 h in
-    let ih = ap (λ x. put_back s x (apply ws N)) (sym o.named) ∙ undone s ws N f.2 h in
-    ap (λ x. put_back s x (do_fresh c sh (apply ws N))) (ap (copy_named s) (kept_fresh c sh (apply ws N)) ∙ o.named)
+    let ih = ap (λ x. do_restore s x (apply ws N)) (sym o.named) ∙ undone s ws N f.2 h in
+    ap (λ x. do_restore s x (do_fresh c sh (apply ws N))) (ap (copy_named s) (kept_fresh c sh (apply ws N)) ∙ o.named)
     ∙ back_fresh s o.copy c sh (apply ws N) (λ g. newer_than_named s c (apply ws N).kept o.copy (f.1.1 g) o.named)
     ∙ go (is_global c) o.copy ih
   where
-    go : (x : Bool) (C : Cells) → put_back s (Some C) (apply ws N) ≡ apply (undo s ws) N → cond x (do_fresh c sh (put_back s (Some C) (apply ws N))) (put_back s (Some C) (apply ws N)) ≡ apply (cond x (fresh c sh ∷ undo s ws) (undo s ws)) N
+    go : (x : Bool) (C : CellMap) → do_restore s (Some C) (apply ws N) ≡ apply (writes_left s ws) N → cond x (do_fresh c sh (do_restore s (Some C) (apply ws N))) (do_restore s (Some C) (apply ws N)) ≡ apply (cond x (fresh c sh ∷ writes_left s ws) (writes_left s ws)) N
     go true C ih = ap (do_fresh c sh) ih
     go false C ih = ih
 undone s (store l v ∷ ws) N f h =
     let o = opened s ws N f.2 h in
-    let ih = ap (λ x. put_back s x (apply ws N)) (sym o.named) ∙ undone s ws N f.2 h in
-    ap (λ x. put_back s x (do_store (spot_of l) v (apply ws N))) (ap (copy_named s) (kept_store (spot_of l) v (apply ws N)) ∙ o.named)
+    let ih = ap (λ x. do_restore s x (apply ws N)) (sym o.named) ∙ undone s ws N f.2 h in
+    ap (λ x. do_restore s x (do_store (spot_of l) v (apply ws N))) (ap (copy_named s) (kept_store (spot_of l) v (apply ws N)) ∙ o.named)
     ∙ back_store s o.copy (spot_of l) v (apply ws N)
     ∙ go (outlives s (spot_of l)) o.copy ih
   where
-    go : (x : Bool) (C : Cells) → put_back s (Some C) (apply ws N) ≡ apply (undo s ws) N → cond x (do_store (spot_of l) v (put_back s (Some C) (apply ws N))) (put_back s (Some C) (apply ws N)) ≡ apply (cond x (store l v ∷ undo s ws) (undo s ws)) N
+    go : (x : Bool) (C : CellMap) → do_restore s (Some C) (apply ws N) ≡ apply (writes_left s ws) N → cond x (do_store (spot_of l) v (do_restore s (Some C) (apply ws N))) (do_restore s (Some C) (apply ws N)) ≡ apply (cond x (store l v ∷ writes_left s ws) (writes_left s ws)) N
     go true C ih = ap (do_store (spot_of l) v) ih
     go false C ih = ih
 undone s (restore r ∷ ws) N f h = absurd (true≢false (sym f.0))
@@ -193,7 +193,7 @@ no_content (Some (dictionary n a es)) e = cc
 no_content (Some (items xs)) e = cc
 no_content (Some (characters n)) e = cc
 
-unused_after : (s : SaveName) (C : Cells) (M : Memory) (c : Cell) → ((d : Cell) → get M.locals d ≡ None → get C d ≡ None) → IsUnused M c → IsUnused (put_back s (Some C) M) c
+unused_after : (s : SaveName) (C : CellMap) (M : Memory) (c : Cell) → ((d : Cell) → get M.locals d ≡ None → get C d ≡ None) → IsUnused M c → IsUnused (do_restore s (Some C) M) c
 unused_after s C M c within u d p q = ap shape_in (restored s C M (held d whole)) ∙ go (is_global d) refl (u d p q)
   where
     go : (x : Bool) → is_global d ≡ x → shape_in (in_content (get (cond x M.globals M.locals) d) whole) ≡ None
@@ -201,7 +201,7 @@ unused_after s C M c within u d p q = ap shape_in (restored s C M (held d whole)
     go true e h = h
     go false e h = ap (λ o. shape_in (in_content o whole)) (within d (no_content (get M.locals d) h))
 
-place_after : (s : SaveName) (C : Cells) (M : Memory) (p : Spot) → outlives s p ≡ true → is_place M p ≡ true → is_place (put_back s (Some C) M) p ≡ true
+place_after : (s : SaveName) (C : CellMap) (M : Memory) (p : Spot) → outlives s p ≡ true → is_place M p ≡ true → is_place (do_restore s (Some C) M) p ≡ true
 place_after s C M (held c t) e h = go (is_global c) e h
   where
     go : (x : Bool) → x ≡ true → is_slot (get (cond x M.globals M.locals) c) t ≡ true → is_slot (get (cond x M.globals C) c) t ≡ true
@@ -215,11 +215,11 @@ place_after s C M (byte c i) e h = ap (λ o. is_byte o i) (kept_at s c M.strings
 place_after s C M rand e h = h
 place_after s C M paper e h = h
 
-pub applicable_undo : (s : SaveName) (ws : List Action) (N : Memory) → Applicable ws N → is_open s ws ≡ true → Applicable (undo s ws) N
+pub applicable_undo : (s : SaveName) (ws : List Action) (N : Memory) → Applicable ws N → is_open s ws ≡ true → Applicable (writes_left s ws) N
 applicable_undo s [] N f h = absurd (true≢false (sym h))
 applicable_undo s (save r ∷ ws) N f h = go (same_save s r) h (applicable_undo s ws N f.2)
   where
-    go : (x : Bool) → cond x true (is_open s ws) ≡ true → (is_open s ws ≡ true → Applicable (undo s ws) N) → Applicable (cond x ws (undo s ws)) N
+    go : (x : Bool) → cond x true (is_open s ws) ≡ true → (is_open s ws ≡ true → Applicable (writes_left s ws) N) → Applicable (cond x ws (writes_left s ws)) N
     go true h ih = f.2
     go false h ih = ih h
 applicable_undo s (fresh c sh ∷ ws) N f h = go (is_global c) refl (applicable_undo s ws N f.2 h)
@@ -227,10 +227,10 @@ applicable_undo s (fresh c sh ∷ ws) N f h = go (is_global c) refl (applicable_
     o : Opened s (apply ws N)
     o = opened s ws N f.2 h
 
-    back : put_back s (Some o.copy) (apply ws N) ≡ apply (undo s ws) N
-    back = ap (λ x. put_back s x (apply ws N)) (sym o.named) ∙ undone s ws N f.2 h
+    back : do_restore s (Some o.copy) (apply ws N) ≡ apply (writes_left s ws) N
+    back = ap (λ x. do_restore s x (apply ws N)) (sym o.named) ∙ undone s ws N f.2 h
 
-    go : (x : Bool) → is_global c ≡ x → Applicable (undo s ws) N → Applicable (cond x (fresh c sh ∷ undo s ws) (undo s ws)) N
+    go : (x : Bool) → is_global c ≡ x → Applicable (writes_left s ws) N → Applicable (cond x (fresh c sh ∷ writes_left s ws) (writes_left s ws)) N
     go true e ih = (refl, (subst (λ M. IsUnused M c) back (unused_after s o.copy (apply ws N) c o.within f.1.0), λ g. absurd (true≢false (sym e ∙ g))), ih)
     go false e ih = ih
 applicable_undo s (store l v ∷ ws) N f h = go (outlives s (spot_of l)) refl (applicable_undo s ws N f.2 h)
@@ -238,10 +238,10 @@ applicable_undo s (store l v ∷ ws) N f h = go (outlives s (spot_of l)) refl (a
     o : Opened s (apply ws N)
     o = opened s ws N f.2 h
 
-    back : put_back s (Some o.copy) (apply ws N) ≡ apply (undo s ws) N
-    back = ap (λ x. put_back s x (apply ws N)) (sym o.named) ∙ undone s ws N f.2 h
+    back : do_restore s (Some o.copy) (apply ws N) ≡ apply (writes_left s ws) N
+    back = ap (λ x. do_restore s x (apply ws N)) (sym o.named) ∙ undone s ws N f.2 h
 
-    go : (x : Bool) → outlives s (spot_of l) ≡ x → Applicable (undo s ws) N → Applicable (cond x (store l v ∷ undo s ws) (undo s ws)) N
+    go : (x : Bool) → outlives s (spot_of l) ≡ x → Applicable (writes_left s ws) N → Applicable (cond x (store l v ∷ writes_left s ws) (writes_left s ws)) N
     go true e ih = (refl, (subst (λ M. is_place M (spot_of l) ≡ true) back (place_after s o.copy (apply ws N) (spot_of l) e f.1.0), f.1.1), ih)
     go false e ih = ih
 applicable_undo s (restore r ∷ ws) N f h = absurd (true≢false (sym f.0))

@@ -6,7 +6,7 @@ use Rattle.ps_memory.specs.Memory.{is_global, same_save, Spot, spot_of, Memory, 
 use Rattle.ps_memory.specs.Tree.{Tree, ends, looks, acts, asks, Step, looked_at, did, trail, play}
 use Rattle.ps_memory.specs.Ownership.{Owned, nothing_owned, saves_before, has_save, own, outer_from, outlives}
 use Rattle.ps_memory.specs.Frame.{Allowed, Safe}
-use Rattle.ps_memory.specs.Writes.{apply, Applicable, undo, note, writes_from, CertificateLaw, is_open}
+use Rattle.ps_memory.specs.Writes.{apply, Applicable, writes_left, note, writes_from, CertificateLaw, is_open}
 use Rattle.ps_memory.proofs.Frame.{frame_law}
 use Rattle.ps_memory.proofs.Undo.{undone, applicable_undo}
 use Rattle.ps_memory.proofs.Replace.{saves_in, noted_store}
@@ -57,22 +57,22 @@ saves_named s (k ∷ saves) = go (same_save s k.0) (saves_named s saves)
     go true ih = refl
     go false ih = ih
 
-undo_named : (s : SaveName) (ws : List Action) → saves_in (undo s ws) ≡ before s (saves_in ws)
+undo_named : (s : SaveName) (ws : List Action) → saves_in (writes_left s ws) ≡ before s (saves_in ws)
 unfolding before
 undo_named s [] = refl
 undo_named s (save r ∷ ws) = go (same_save s r) (undo_named s ws)
   where
-    go : (x : Bool) → saves_in (undo s ws) ≡ before s (saves_in ws) → saves_in (cond x ws (undo s ws)) ≡ cond x (saves_in ws) (before s (saves_in ws))
+    go : (x : Bool) → saves_in (writes_left s ws) ≡ before s (saves_in ws) → saves_in (cond x ws (writes_left s ws)) ≡ cond x (saves_in ws) (before s (saves_in ws))
     go true ih = refl
     go false ih = ih
 undo_named s (fresh c sh ∷ ws) = go (is_global c) (undo_named s ws)
   where
-    go : (x : Bool) → saves_in (undo s ws) ≡ before s (saves_in ws) → saves_in (cond x (fresh c sh ∷ undo s ws) (undo s ws)) ≡ before s (saves_in ws)
+    go : (x : Bool) → saves_in (writes_left s ws) ≡ before s (saves_in ws) → saves_in (cond x (fresh c sh ∷ writes_left s ws) (writes_left s ws)) ≡ before s (saves_in ws)
     go true ih = ih
     go false ih = ih
 undo_named s (store l v ∷ ws) = go (outlives s (spot_of l)) (undo_named s ws)
   where
-    go : (x : Bool) → saves_in (undo s ws) ≡ before s (saves_in ws) → saves_in (cond x (store l v ∷ undo s ws) (undo s ws)) ≡ before s (saves_in ws)
+    go : (x : Bool) → saves_in (writes_left s ws) ≡ before s (saves_in ws) → saves_in (cond x (store l v ∷ writes_left s ws) (writes_left s ws)) ≡ before s (saves_in ws)
     go true ih = ih
     go false ih = ih
 undo_named s (restore r ∷ ws) = undo_named s ws
@@ -102,10 +102,10 @@ written (did (tell x) ∷ steps) o ws N f e out a =
     record { same = r.same; applicable = r.applicable }
 written (did (restore s) ∷ steps) o ws N f e out a =
     go (has_save s o.saves) refl out
-    (λ opens out same. written steps (own (restore s) o) (undo s ws) N (applicable_undo s ws N f opens) (saves_named s o.saves ∙ ap (before s) e ∙ sym (undo_named s ws)) out (subst (Allows steps) same a.1))
+    (λ opens out same. written steps (own (restore s) o) (writes_left s ws) N (applicable_undo s ws N f opens) (saves_named s o.saves ∙ ap (before s) e ∙ sym (undo_named s ws)) out (subst (Allows steps) same a.1))
   where
     go : (x : Bool) → has_save s o.saves ≡ x → cond x (outer_from (own (restore s) o) steps) (Some s) ≡ None
-        → (is_open s ws ≡ true → outer_from (own (restore s) o) steps ≡ None → perform (restore s) (apply ws N) ≡ apply (undo s ws) N → Written steps (undo s ws) N)
+        → (is_open s ws ≡ true → outer_from (own (restore s) o) steps ≡ None → perform (restore s) (apply ws N) ≡ apply (writes_left s ws) N → Written steps (writes_left s ws) N)
         → Written (did (restore s) ∷ steps) ws N
     go true h out ih =
         let opens = open_by_name s ws ∙ ap (has_name s) (sym e) ∙ sym (has_by_name s o.saves) ∙ h in

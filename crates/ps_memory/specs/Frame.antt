@@ -48,6 +48,7 @@ pub record SameRun {A : Type 0} (t : Tree A) (M N : Memory) : Type 0 where
   pub memory : after t M ≡ play (trail t M) M
   pub other_memory : after t N ≡ play (trail t M) N
 
+-- a run whose looked places have equal values in two kin memories, and that has no outer restore, is one run in both
 abbrev pub FrameLaw : Type 0 → Type 0
 FrameLaw A = (t : Tree A) (M N : Memory) → Safe t M → Safe t N → Kin M N → outer (trail t M) ≡ None
     → AllByRecursion (λ l. value_at M l ≡ value_at N l) (looked (trail t M)) → SameRun t M N

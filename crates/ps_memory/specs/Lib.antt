@@ -1,4 +1,8 @@
 pub mod Order
+pub mod State
+pub mod Places
+pub mod Kinds
+pub mod Actions
 pub mod Memory
 pub mod Next
 pub mod Holders

@@ -8,9 +8,11 @@ use Rattle.ps_memory.specs.Order.{cell_cmp, key_cmp}
 use Rattle.ps_memory.specs.Memory.{is_global, newer, same_save, Slot, entry, access, item, whole, Spot, held, byte, rand, paper, spot_of, Action, store, fresh, save, restore, tell}
 use Rattle.ps_memory.specs.Tree.{Step, looked_at, did}
 
+-- the two cells are one
 abbrev pub same_cell : Cell → Cell → Bool
 same_cell = eq_by_cmp cell_cmp
 
+-- the two slots are one
 abbrev pub same_slot : Slot → Slot → Bool
 same_slot (entry a) (entry b) = eq_by_cmp key_cmp b a
 same_slot access access = true
@@ -18,6 +20,7 @@ same_slot (item a) (item b) = nat_eq a b
 same_slot whole whole = true
 same_slot _ _ = false
 
+-- the two spots are one
 abbrev pub same_spot : Spot → Spot → Bool
 same_spot (held c s) (held d t) = same_cell d c && same_slot s t
 same_spot (byte c i) (byte d j) = same_cell d c && nat_eq i j
@@ -25,6 +28,7 @@ same_spot rand rand = true
 same_spot paper paper = true
 same_spot _ _ = false
 
+-- the spot is one of the cell
 abbrev pub in_cell : Cell → Spot → Bool
 in_cell c (held d t) = same_cell d c
 in_cell c (byte d i) = same_cell d c
@@ -50,17 +54,21 @@ pub record Owned : Type 0 where
   pub now : Spot → Bool
   pub saves : List (SaveName × (Spot → Bool))
 
+-- a trail that has done nothing owns nothing
 abbrev pub nothing_owned : Owned
 nothing_owned = record { now = λ p. false; saves = [] }
 
+-- what was owned at the save of this name; where the trail made none, nothing
 abbrev pub owned_at : SaveName → List (SaveName × (Spot → Bool)) → Spot → Bool
 owned_at s [] p = false
 owned_at s (k ∷ saves) p = cond (same_save s k.0) (k.1 p) (owned_at s saves p)
 
+-- the saves that were made before the one of this name
 abbrev pub saves_before : SaveName → List (SaveName × (Spot → Bool)) → List (SaveName × (Spot → Bool))
 saves_before s [] = []
 saves_before s (k ∷ saves) = cond (same_save s k.0) saves (saves_before s saves)
 
+-- the trail made a save of this name, which is open
 abbrev pub has_save : SaveName → List (SaveName × (Spot → Bool)) → Bool
 has_save s [] = false
 has_save s (k ∷ saves) = cond (same_save s k.0) true (has_save s saves)
@@ -84,12 +92,15 @@ outer_from o (looked_at l ∷ steps) = outer_from o steps
 outer_from o (did (restore s) ∷ steps) = cond (has_save s o.saves) (outer_from (own (restore s) o) steps) (Some s)
 outer_from o (did w ∷ steps) = outer_from (own w o) steps
 
+-- the save that the first outer restore of a whole trail names, if it has one
 abbrev pub outer : List Step → Option SaveName
 outer = outer_from nothing_owned
 
+-- the two places are one
 abbrev pub same_loc : Loc → Loc → Bool
 same_loc k l = same_spot (spot_of k) (spot_of l)
 
+-- the place is one of those
 abbrev pub is_among : Loc → List Loc → Bool
 is_among l [] = false
 is_among l (k ∷ ks) = same_loc l k || is_among l ks
@@ -100,5 +111,6 @@ looked_from o seen [] = []
 looked_from o seen (looked_at l ∷ steps) = cond (owns o l || is_among l seen) (looked_from o seen steps) (l ∷ looked_from o (l ∷ seen) steps)
 looked_from o seen (did w ∷ steps) = looked_from (own w o) seen steps
 
+-- the same of a whole trail
 abbrev pub looked : List Step → List Loc
 looked = looked_from nothing_owned []

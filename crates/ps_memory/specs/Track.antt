@@ -14,6 +14,7 @@ pub record Track : Type 0 where
   pub seen : List Loc
   pub written : List Action
 
+-- a look is noted where its place is neither owned nor seen yet
 abbrev pub saw : Loc → Track → Track
 saw l k = record { owned = k.owned; seen = cond (owns k.owned l || is_among l k.seen) k.seen (k.seen ++ l ∷ []); written = k.written }
 
@@ -21,23 +22,26 @@ saw l k = record { owned = k.owned; seen = cond (owns k.owned l || is_among l k.
 abbrev pub paper_lifted : Track → Track
 paper_lifted k = record { owned = (saw loc.Paper k).owned; seen = (saw loc.Paper k).seen; written = with_empty_paper k.written }
 
-abbrev pub acted : Action → Track → Track
-acted w k = record { owned = own w k.owned; seen = k.seen; written = note w k.written }
+-- an action owns its places and is one of the writes
+abbrev pub track_acted : Action → Track → Track
+track_acted w k = record { owned = own w k.owned; seen = k.seen; written = note w k.written }
 
+-- what is known at the end of a run from a memory, from what is known at its beginning
 abbrev pub track_on : {A : Type 0} → Tree A → Memory → Track → Track
 track_on (ends a) M k = k
 track_on (looks l f) M k = track_on (f (value_at M l)) M (saw l k)
-track_on (acts w t) M k = track_on t (perform w M) (acted w k)
+track_on (acts w t) M k = track_on t (perform w M) (track_acted w k)
 track_on (asks c f) M k = track_on (f (shape_of M c)) M k
 
 -- the first restore of a save that is none of the track's
 abbrev pub outer_on : {A : Type 0} → Tree A → Memory → Track → Option SaveName
 outer_on (ends a) M k = None
 outer_on (looks l f) M k = outer_on (f (value_at M l)) M (saw l k)
-outer_on (acts (restore s) t) M k = cond (has_save s k.owned.saves) (outer_on t (perform (restore s) M) (acted (restore s) k)) (Some s)
-outer_on (acts w t) M k = outer_on t (perform w M) (acted w k)
+outer_on (acts (restore s) t) M k = cond (has_save s k.owned.saves) (outer_on t (perform (restore s) M) (track_acted (restore s) k)) (Some s)
+outer_on (acts w t) M k = outer_on t (perform w M) (track_acted w k)
 outer_on (asks c f) M k = outer_on (f (shape_of M c)) M k
 
+-- what is known of a run that has done nothing
 abbrev pub nothing_tracked : Track
 nothing_tracked = record { owned = nothing_owned; seen = []; written = [] }
 
@@ -47,5 +51,6 @@ pub record IsTracked {A : Type 0} (t : Tree A) (M : Memory) : Type 0 where
   pub written : (track_on t M nothing_tracked).written ≡ writes (trail t M)
   pub outer : outer_on t M nothing_tracked ≡ outer (trail t M)
 
+-- of every run, from every memory
 abbrev pub TrackLaw : Type 0 → Type 0
 TrackLaw A = (t : Tree A) (M : Memory) → IsTracked t M

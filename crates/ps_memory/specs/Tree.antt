@@ -18,18 +18,21 @@ pub data Change : Type 0 where
   makes : Cell → Shape → Change
   opens : SaveName → Change
 
+-- a change as an action
 abbrev pub action_of : Change → Action
 action_of (puts l v) = store l v
 action_of (makes c sh) = fresh c sh
 action_of (opens s) = save s
 
+-- the entry of a key is taken away
 abbrev pub removes : Cell → Key → Change
 removes d k = puts (loc.Entry d k) value.Absent
 
--- paper is laid where it was taken, or blank paper of a size
+-- paper is laid where it was taken
 abbrev pub lays : Sheet → Change
 lays p = puts loc.Paper (value.Paper p)
 
+-- blank paper of a size in pixels is laid
 abbrev pub wipes : ℕ → ℕ → Change
 wipes width height = lays (blank width height)
 
@@ -50,12 +53,14 @@ pub data Tree (A : Type 0) : Type 0 where
   asks : Cell → (Shape → Tree A) → Tree A
 
 infixl 30 ◌>>=◌
+-- a run that goes on from where another ends
 abbrev pub ◌>>=◌ : {A B : Type 0} → Tree A → (A → Tree B) → Tree B
 ◌>>=◌ (ends a) k = k a
 ◌>>=◌ (looks l f) k = looks l (λ v. f v >>= k)
 ◌>>=◌ (acts w t) k = acts w (t >>= k)
 ◌>>=◌ (asks c f) k = asks c (λ s. f s >>= k)
 
+-- changes are done, in order, before a run
 abbrev pub changes : {A : Type 0} → List Change → Tree A → Tree A
 changes [] t = t
 changes (w ∷ ws) t = acts (action_of w) (changes ws t)
@@ -68,23 +73,26 @@ applied (fail e) = ends (Err e)
 applied (look l f) = looks l (λ v. applied (f v))
 applied (ask c f) = asks c (λ s. applied (f s))
 
+-- what a trail holds: a look, or an action
 pub data Step : Type 0 where
   looked_at : Loc → Step
   did : Action → Step
 
--- the result of a run from a memory, the memory after it, and its trail: its looks and actions in order
+-- the result of a run from a memory
 abbrev pub result : {A : Type 0} → Tree A → Memory → A
 result (ends a) M = a
 result (looks l f) M = result (f (value_at M l)) M
 result (acts w t) M = result t (perform w M)
 result (asks c f) M = result (f (shape_of M c)) M
 
+-- the memory after it
 abbrev pub after : {A : Type 0} → Tree A → Memory → Memory
 after (ends a) M = M
 after (looks l f) M = after (f (value_at M l)) M
 after (acts w t) M = after t (perform w M)
 after (asks c f) M = after (f (shape_of M c)) M
 
+-- its trail: its looks and actions in order
 abbrev pub trail : {A : Type 0} → Tree A → Memory → List Step
 trail (ends a) M = []
 trail (looks l f) M = looked_at l ∷ trail (f (value_at M l)) M

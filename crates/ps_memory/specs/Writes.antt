@@ -16,6 +16,7 @@ abbrev pub apply : List Action → Memory → Memory
 apply [] M = M
 apply (w ∷ ws) M = perform w (apply ws M)
 
+-- a restore and an output are never among the writes
 abbrev pub is_write : Action → Bool
 is_write (store l v) = true
 is_write (fresh c sh) = true
@@ -37,33 +38,34 @@ survives s (restore r) = false
 survives s (tell o) = false
 
 -- the writes that are left once a save is restored
-abbrev pub undo : SaveName → List Action → List Action
-undo s [] = []
-undo s (save r ∷ ws) = cond (same_save s r) ws (undo s ws)
-undo s (w ∷ ws) = cond (survives s w) (w ∷ undo s ws) (undo s ws)
+abbrev pub writes_left : SaveName → List Action → List Action
+writes_left s [] = []
+writes_left s (save r ∷ ws) = cond (same_save s r) ws (writes_left s ws)
+writes_left s (w ∷ ws) = cond (survives s w) (w ∷ writes_left s ws) (writes_left s ws)
 
 -- The writes with a value in place of what an earlier store put there. The search passes what has nothing to do with the
 -- place, and those saves that the store outlives.
-abbrev pub replaced : Loc → Value → List Action → Option (List Action)
-replaced l v [] = None
-replaced l v (store k w ∷ ws) = cond (same_spot (spot_of k) (spot_of l)) (Some (store k v ∷ ws)) (option_map (λ us. store k w ∷ us) (replaced l v ws))
-replaced l v (fresh c sh ∷ ws) = cond (in_cell c (spot_of l)) None (option_map (λ us. fresh c sh ∷ us) (replaced l v ws))
-replaced l v (save s ∷ ws) = cond (outlives s (spot_of l)) (option_map (λ us. save s ∷ us) (replaced l v ws)) None
-replaced l v (restore s ∷ ws) = None
-replaced l v (tell o ∷ ws) = None
+abbrev pub store_replaced : Loc → Value → List Action → Option (List Action)
+store_replaced l v [] = None
+store_replaced l v (store k w ∷ ws) = cond (same_spot (spot_of k) (spot_of l)) (Some (store k v ∷ ws)) (option_map (λ us. store k w ∷ us) (store_replaced l v ws))
+store_replaced l v (fresh c sh ∷ ws) = cond (in_cell c (spot_of l)) None (option_map (λ us. fresh c sh ∷ us) (store_replaced l v ws))
+store_replaced l v (save s ∷ ws) = cond (outlives s (spot_of l)) (option_map (λ us. save s ∷ us) (store_replaced l v ws)) None
+store_replaced l v (restore s ∷ ws) = None
+store_replaced l v (tell o ∷ ws) = None
 
 -- the writes with paper of no size in place of the newest paper that they store
 abbrev pub with_empty_paper : List Action → List Action
-with_empty_paper ws = elim (replaced loc.Paper (value.Paper (blank 0 0)) ws) as (λ _. List Action) [ None ↦ ws | Some us ↦ us ]
+with_empty_paper ws = elim (store_replaced loc.Paper (value.Paper (blank 0 0)) ws) as (λ _. List Action) [ None ↦ ws | Some us ↦ us ]
 
 -- the writes with one action more: a restore takes some back, and a store may replace an earlier one
 abbrev pub note : Action → List Action → List Action
-note (store l v) ws = elim (replaced l v ws) [ None ↦ store l v ∷ ws | Some us ↦ us ]
+note (store l v) ws = elim (store_replaced l v ws) [ None ↦ store l v ∷ ws | Some us ↦ us ]
 note (fresh c sh) ws = fresh c sh ∷ ws
 note (save s) ws = save s ∷ ws
-note (restore s) ws = undo s ws
+note (restore s) ws = writes_left s ws
 note (tell o) ws = ws
 
+-- the writes after further steps of a trail
 abbrev pub writes_from : List Action → List Step → List Action
 writes_from ws [] = ws
 writes_from ws (looked_at l ∷ steps) = writes_from ws steps
@@ -80,6 +82,7 @@ pub record Holds {A : Type 0} (t : Tree A) (B M : Memory) : Type 0 where
   pub applicable : Applicable (writes (trail t B)) M
   pub written : after t M ≡ apply (writes (trail t B)) M
 
+-- a run holds on each kin memory that has the values of its looked places, where it has no outer restore
 abbrev pub CertificateLaw : Type 0 → Type 0
 CertificateLaw A = (t : Tree A) (B M : Memory) → Safe t B → Safe t M → Kin B M → outer (trail t B) ≡ None
     → AllByRecursion (λ l. value_at B l ≡ value_at M l) (looked (trail t B)) → Holds t B M

@@ -10,7 +10,7 @@ use Rattle.ps_objects.specs.declared.cell.SaveName.{SaveName}
 use Rattle.ps_objects.specs.declared.place.Shape.{Shape}
 use Rattle.ps_kinds.specs.declared.frame.Frame.{Frame}
 use Rattle.ps_kinds.specs.declared.state.State.{State}
-use Rattle.ps_memory.specs.Memory.{is_global, newer, same_save, standing}
+use Rattle.ps_memory.specs.Memory.{is_global, newer, same_save, standing_shape}
 use Rattle.ps_memory.specs.Ownership.{same_cell}
 use Rattle.ps_memory.specs.Frame.{later}
 use Rattle.ps_memory.specs.Tree.{Change, puts, makes, opens, done, restores, fail, look, ask, ends, changes, applied}
@@ -205,7 +205,7 @@ lawful_run text most below (restores r ws e) s W f h = (
 )
 lawful_run text most below (fail e) s W f h = refl
 lawful_run text most below (look l k) s W f h = (h.0, λ v q. lawful_run text most below (k v) s W f (h.1 v q))
-lawful_run text most below (ask c k) s W f h = (h.0, lawful_run text most below (k (standing (W.shapes c))) s W f h.1)
+lawful_run text most below (ask c k) s W f h = (h.0, lawful_run text most below (k (standing_shape (W.shapes c))) s W f h.1)
 
 pub lawful_run_law : LawfulRunLaw
 lawful_run_law text most below a s W f h = lawful_run text most below a s W f h.lawful

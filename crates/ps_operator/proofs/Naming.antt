@@ -6,7 +6,7 @@ use Rattle.std.specs.Ordering.{nat_cmp, is_gt, ordering_then}
 use Rattle.ps_objects.specs.declared.cell.Cell.{Cell}
 use Rattle.ps_objects.specs.declared.cell.SaveName.{SaveName}
 use Rattle.ps_kinds.specs.declared.state.State.{State}
-use Rattle.ps_memory.specs.Memory.{is_global, newer, Cells, Memory, shape_at}
+use Rattle.ps_memory.specs.Memory.{is_global, newer, CellMap, Memory, shape_at}
 use Rattle.ps_memory.specs.Frame.{later, IsNewest}
 use Rattle.ps_meaning.specs.Registers.{world_of}
 use Rattle.ps_meaning.proofs.Memory.{no_string}
@@ -31,11 +31,11 @@ above section count n r l (inr h) = above_second section count r.section r.count
 pub newer_made_before : (c : Cell) (n : ℕ) (r : SaveName) → is_global c ≡ false → n ≤ c.count → IsMadeBefore c.section n r → newer c r ≡ true
 newer_made_before c n r g l h = ap (λ b. not b && is_gt (ordering_then (nat_cmp c.section r.section) (nat_cmp c.count r.count))) g ∙ above c.section c.count n r l h
 
-all_newer : (c : Cell) (n : ℕ) → is_global c ≡ false → n ≤ c.count → (kept : List (SaveName × Cells)) → AllByRecursion (IsMadeBefore c.section n) (map (λ k. k.0) kept) → AllByRecursion (λ k. newer c k.0 ≡ true) kept
+all_newer : (c : Cell) (n : ℕ) → is_global c ≡ false → n ≤ c.count → (kept : List (SaveName × CellMap)) → AllByRecursion (IsMadeBefore c.section n) (map (λ k. k.0) kept) → AllByRecursion (λ k. newer c k.0 ≡ true) kept
 all_newer c n g l [] h = tt
 all_newer c n g l (k ∷ kept) h = (newer_made_before c n k.0 g l h.0, all_newer c n g l kept h.1)
 
-all_later : (section n : ℕ) (kept : List (SaveName × Cells)) → AllByRecursion (IsMadeBefore section n) (map (λ k. k.0) kept) → AllByRecursion (λ k. later (record { section = section; count = n }) k.0 ≡ true) kept
+all_later : (section n : ℕ) (kept : List (SaveName × CellMap)) → AllByRecursion (IsMadeBefore section n) (map (λ k. k.0) kept) → AllByRecursion (λ k. later (record { section = section; count = n }) k.0 ≡ true) kept
 all_later section n [] h = tt
 all_later section n (k ∷ kept) h = (above section n n k.0 (omega arith) h.0, all_later section n kept h.1)
 

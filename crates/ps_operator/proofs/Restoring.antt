@@ -1,7 +1,7 @@
 -- What a restore needs, and that the paper is here after it.
 use Rattle.std.proofs.Common.{◌≡◌, true, map, Option, Some, None, sym, ◌∙◌, subst}
 use Rattle.ps_objects.specs.declared.cell.SaveName.{SaveName}
-use Rattle.ps_memory.specs.Memory.{Memory, Cells, copy_named, put_back, restore}
+use Rattle.ps_memory.specs.Memory.{Memory, CellMap, copy_named, do_restore, restore}
 use Rattle.ps_kinds.specs.declared.state.State.{State}
 use Rattle.ps_meaning.specs.Sound.{has_name}
 use Rattle.ps_meaning.specs.Registers.{world_of}
@@ -12,7 +12,7 @@ use Rattle.vm_mem.specs.Conditions.{is_here, page_is_here, MayRestore}
 use Rattle.ps_meaning.specs.Ready.{Ready}
 use Rattle.ps_operator.proofs.Standing.{page_stands}
 
-back_page : (q : SaveName) (o : Option Cells) (M : Memory) → page_is_here M ≡ true → page_is_here (put_back q o M) ≡ true
+back_page : (q : SaveName) (o : Option CellMap) (M : Memory) → page_is_here M ≡ true → page_is_here (do_restore q o M) ≡ true
 unfolding page_is_here
 back_page q None M h = h
 back_page q (Some copy) M h = h

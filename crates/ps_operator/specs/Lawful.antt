@@ -11,7 +11,7 @@ use Rattle.ps_objects.specs.declared.place.Value.{Value}
 use Rattle.ps_objects.specs.declared.place.Shape.TheVariants as shape
 use Rattle.ps_kinds.specs.declared.frame.Frame.{Frame}
 use Rattle.ps_kinds.specs.declared.state.State.{State}
-use Rattle.ps_memory.specs.Memory.{spot_of, is, is_kind, standing}
+use Rattle.ps_memory.specs.Memory.{spot_of, is, is_kind, standing_shape}
 use Rattle.ps_memory.specs.Tree.{Change, puts, makes, opens, Application, done, restores, fail, look, ask, applied}
 use Rattle.ps_meaning.specs.Answer.{names_taken, newest, state_done, Effect}
 use Rattle.ps_meaning.specs.Fits.{Shapes, lies_within, FitsObject, FitsKey, FitsSpot, SharedSpot, IsDict, IsLoc}
@@ -71,7 +71,7 @@ Lawfully text most below (done ws e) s W = Changes ws W s.count (Leaves text mos
 Lawfully text most below (restores r ws e) s W = (has_name r W.saves ≡ true) × Changes ws (restored_to r W) s.count (Leaves text most below s (names_taken ws) e)
 Lawfully text most below (fail e) s W = ⊤
 Lawfully text most below (look l f) s W = IsLoc W.shapes l × ((v : Value) → IsAnswer W l v → Lawfully text most below (f v) s W)
-Lawfully text most below (ask c f) s W = (W.shapes c ≢ None) × Lawfully text most below (f (standing (W.shapes c))) s W
+Lawfully text most below (ask c f) s W = (W.shapes c ≢ None) × Lawfully text most below (f (standing_shape (W.shapes c))) s W
 
 -- a record, so that its arguments are found
 pub record Keeps (text : List ℕ) (most : ℕ) (below : List Frame) (t : Ask) (s : State) (W : World) : Type 0 where
@@ -91,7 +91,7 @@ Looks (done ws x) W P = P x
 Looks (restores r ws x) W P = P x
 Looks (fail e) W P = ⊤
 Looks (look l f) W P = IsLoc W.shapes l × ((v : Value) → IsAnswer W l v → Looks (f v) W P)
-Looks (ask c f) W P = (W.shapes c ≢ None) × Looks (f (standing (W.shapes c))) W P
+Looks (ask c f) W P = (W.shapes c ≢ None) × Looks (f (standing_shape (W.shapes c))) W P
 
 -- How a lawful operator ends as a run: with a state that fits the world it leaves, whose count has passed the names that were taken; or
 -- with an error, in the world in which it began.

@@ -4,7 +4,7 @@ use Rattle.ps_kinds.specs.declared.act.Act.{Act}
 use Rattle.ps_kinds.specs.declared.act.Act.TheVariants as act
 use Rattle.ps_kinds.specs.declared.frame.Frame.{Frame}
 use Rattle.ps_kinds.specs.declared.state.State.{State}
-use Rattle.ps_memory.specs.Memory.{standing}
+use Rattle.ps_memory.specs.Memory.{standing_shape}
 use Rattle.ps_memory.specs.Tree.{done, restores, fail, look, ask}
 use Rattle.ps_meaning.specs.Answer.{names_taken, newest, act_done, fixed, Effect}
 use Rattle.ps_meaning.specs.Fits.{Shapes}
@@ -73,7 +73,7 @@ entry text most below (restores r ws e) s W f h = (
 )
 entry text most below (fail e) s W f h = failed text most s W (act.Fail e) tt f
 entry text most below (look l k) s W f h = (h.0, λ v q. entry text most below (k v) s W f (h.1 v q))
-entry text most below (ask c k) s W f h = (h.0, entry text most below (k (standing (W.shapes c))) s W f h.1)
+entry text most below (ask c k) s W f h = (h.0, entry text most below (k (standing_shape (W.shapes c))) s W f h.1)
 
 pub entry_keeps : (text : List ℕ) (most : ℕ) (below : List Frame) (a : Ask) (s : State) (W : World) → Fits text W s → Keeps text most below a s W → Lawful (applies below a s) W (FitsCame text s most)
 entry_keeps text most below a s W f h = entry text most below a s W f h.lawful

@@ -16,7 +16,7 @@ use Rattle.ps_objects.specs.declared.key.Key.{Key}
 use Rattle.ps_objects.specs.declared.object.Object.{Object}
 use Rattle.ps_objects.specs.declared.place.Loc.TheVariants as loc
 use Rattle.ps_objects.specs.declared.place.Value.TheVariants as value
-use Rattle.ps_memory.specs.Memory.{is_global, newer, same_save, Content, dictionary, items, characters, Cells, Memory, part, in_content, whole, item, entry, access, object_found, byte_found, page_found, Page, here, out, in_string, told, keys_of, shape_in, shape_at, value_at, is_slot, is_byte, copy_named, perform}
+use Rattle.ps_memory.specs.Memory.{is_global, newer, same_save, Content, dictionary, items, characters, CellMap, Memory, part, in_content, whole, item, entry, access, object_found, byte_found, page_found, Page, here, out, in_string, value_found, keys_of, shape_in, shape_at, value_at, is_slot, is_byte, copy_named, perform}
 use Rattle.ps_memory.specs.Frame.{later, Allowed, IsUnused, IsNewest}
 use Rattle.ps_memory.specs.Writes.{apply, is_write, Applicable}
 use Rattle.vm_mem.specs.Conditions.{is_here, page_is_here, is_dictionary, stands}
@@ -49,29 +49,29 @@ earlier s r h = saves_total.antisymm r s ∙ ap ordering_reverse (greater (save_
 later_trans : (a b c : SaveName) → later a b ≡ true → later b c ≡ true → later a c ≡ true
 later_trans a b c h k = ap is_gt (saves_total.antisymm a c ∙ ap ordering_reverse (saves_total.trans c b a (earlier b c k) (earlier a b h)))
 
-later_all : (name s : SaveName) (kept : List (SaveName × Cells)) → later name s ≡ true → AllByRecursion (λ k. later s k.0 ≡ true) kept → AllByRecursion (λ k. later name k.0 ≡ true) kept
+later_all : (name s : SaveName) (kept : List (SaveName × CellMap)) → later name s ≡ true → AllByRecursion (λ k. later s k.0 ≡ true) kept → AllByRecursion (λ k. later name k.0 ≡ true) kept
 later_all name s [] h l = tt
 later_all name s (k ∷ kept) h l = (later_trans name s k.0 h l.0, later_all name s kept h l.1)
 
-pub later_than_newest : (name s : SaveName) (kept rest : List (SaveName × Cells)) (m : Cells) → kept ≡ (s, m) ∷ rest → later name s ≡ true → AllByRecursion (λ k. later s k.0 ≡ true) rest → AllByRecursion (λ k. later name k.0 ≡ true) kept
+pub later_than_newest : (name s : SaveName) (kept rest : List (SaveName × CellMap)) (m : CellMap) → kept ≡ (s, m) ∷ rest → later name s ≡ true → AllByRecursion (λ k. later s k.0 ≡ true) rest → AllByRecursion (λ k. later name k.0 ≡ true) kept
 later_than_newest name s kept rest m e h l = subst (AllByRecursion (λ k. later name k.0 ≡ true)) (sym e) (h, later_all name s rest h l)
 
-pub later_than_none : (name : SaveName) (kept : List (SaveName × Cells)) → kept ≡ [] → AllByRecursion (λ k. later name k.0 ≡ true) kept
+pub later_than_none : (name : SaveName) (kept : List (SaveName × CellMap)) → kept ≡ [] → AllByRecursion (λ k. later name k.0 ≡ true) kept
 later_than_none name kept e = subst (AllByRecursion (λ k. later name k.0 ≡ true)) (sym e) tt
 
-pub this_open : (name s : SaveName) (kept rest : List (SaveName × Cells)) (m : Cells) → kept ≡ (s, m) ∷ rest → same_save name s ≡ true → copy_named name kept ≢ None
+pub this_open : (name s : SaveName) (kept rest : List (SaveName × CellMap)) (m : CellMap) → kept ≡ (s, m) ∷ rest → same_save name s ≡ true → copy_named name kept ≢ None
 this_open name s kept rest m e h n = some_none (sym (ap (copy_named name) e ∙ ap (λ b. cond b (Some m) (copy_named name rest)) h) ∙ n)
   where
     some_none : (Some m ≡ None) → ⊥
     some_none e = cc
 
-pub other_open : (name s : SaveName) (kept rest : List (SaveName × Cells)) (m : Cells) → kept ≡ (s, m) ∷ rest → same_save name s ≡ false → copy_named name kept ≡ copy_named name rest
+pub other_open : (name s : SaveName) (kept rest : List (SaveName × CellMap)) (m : CellMap) → kept ≡ (s, m) ∷ rest → same_save name s ≡ false → copy_named name kept ≡ copy_named name rest
 other_open name s kept rest m e h = ap (copy_named name) e ∙ ap (λ b. cond b (Some m) (copy_named name rest)) h
 
-pub no_strings : (t : FinMap cell_cmp (List ℕ)) (m : Cells) → t ≡ from_entries [] → HaveCells t m
+pub no_strings : (t : FinMap cell_cmp (List ℕ)) (m : CellMap) → t ≡ from_entries [] → HaveCells t m
 no_strings t m e c g h = ap (λ f. get f c) e ∙ cell_found [] c
 
-pub newer_than_all : (c : Cell) (kept : List (SaveName × Cells)) → AllByRecursion (λ k. later (record { section = c.section; count = c.count }) k.0 ≡ true) kept → is_global c ≡ false → AllByRecursion (λ k. newer c k.0 ≡ true) kept
+pub newer_than_all : (c : Cell) (kept : List (SaveName × CellMap)) → AllByRecursion (λ k. later (record { section = c.section; count = c.count }) k.0 ≡ true) kept → is_global c ≡ false → AllByRecursion (λ k. newer c k.0 ≡ true) kept
 newer_than_all c [] a g = tt
 newer_than_all c (k ∷ kept) a g = (ap (λ b. not b && later (record { section = c.section; count = c.count }) k.0) g ∙ a.0, newer_than_all c kept a.1 g)
 
@@ -116,24 +116,24 @@ newest M s holders n c w = (ap (λ o. shape_in (in_content o whole)) gone, holde
 
 -- ---- places
 
-in_items : (xs : List Object) (i : ℕ) → told (object_found (slice_get xs i)) ≢ value.Absent → nat_lt i (length xs) ≡ true
+in_items : (xs : List Object) (i : ℕ) → value_found (object_found (slice_get xs i)) ≢ value.Absent → nat_lt i (length xs) ≡ true
 in_items xs i h = go (slice_get xs i) refl h
   where
-    go : (o : Option Object) → slice_get xs i ≡ o → told (object_found o) ≢ value.Absent → nat_lt i (length xs) ≡ true
+    go : (o : Option Object) → slice_get xs i ≡ o → value_found (object_found o) ≢ value.Absent → nat_lt i (length xs) ≡ true
     go None e h = absurd (h refl)
     go (Some x) e h = grind (arith, slice_get_within xs i x e)
 
-in_bytes : (bs : List ℕ) (i : ℕ) → told (byte_found (slice_get bs i)) ≢ value.Absent → nat_lt i (length bs) ≡ true
+in_bytes : (bs : List ℕ) (i : ℕ) → value_found (byte_found (slice_get bs i)) ≢ value.Absent → nat_lt i (length bs) ≡ true
 in_bytes bs i h = go (slice_get bs i) refl h
   where
-    go : (o : Option ℕ) → slice_get bs i ≡ o → told (byte_found o) ≢ value.Absent → nat_lt i (length bs) ≡ true
+    go : (o : Option ℕ) → slice_get bs i ≡ o → value_found (byte_found o) ≢ value.Absent → nat_lt i (length bs) ≡ true
     go None e h = absurd (h refl)
     go (Some x) e h = grind (arith, slice_get_within bs i x e)
 
 pub entry_stands : (M : Memory) (d : Cell) (k : Key) → value_at M (loc.Access d) ≢ value.Absent → stands M (loc.Entry d k) ≡ true
 entry_stands M d k h = go (get (part M d) d) h
   where
-    go : (o : Option Content) → told (in_content o access) ≢ value.Absent → is_slot o (entry k) ≡ true
+    go : (o : Option Content) → value_found (in_content o access) ≢ value.Absent → is_slot o (entry k) ≡ true
     go None h = absurd (h refl)
     go (Some (dictionary n a es)) h = refl
     go (Some (items xs)) h = absurd (h refl)
@@ -142,7 +142,7 @@ entry_stands M d k h = go (get (part M d) d) h
 pub access_stands : (M : Memory) (d : Cell) → value_at M (loc.Access d) ≢ value.Absent → stands M (loc.Access d) ≡ true
 access_stands M d h = go (get (part M d) d) h
   where
-    go : (o : Option Content) → told (in_content o access) ≢ value.Absent → is_slot o access ≡ true
+    go : (o : Option Content) → value_found (in_content o access) ≢ value.Absent → is_slot o access ≡ true
     go None h = absurd (h refl)
     go (Some (dictionary n a es)) h = refl
     go (Some (items xs)) h = absurd (h refl)
@@ -160,7 +160,7 @@ keys_stand M d h = go (get (part M d) d) h
 pub item_stands : (M : Memory) (a : Cell) (i : ℕ) → value_at M (loc.Item a i) ≢ value.Absent → stands M (loc.Item a i) ≡ true
 item_stands M a i h = go (get (part M a) a) h
   where
-    go : (o : Option Content) → told (in_content o (item i)) ≢ value.Absent → is_slot o (item i) ≡ true
+    go : (o : Option Content) → value_found (in_content o (item i)) ≢ value.Absent → is_slot o (item i) ≡ true
     go None h = absurd (h refl)
     go (Some (dictionary n a es)) h = absurd (h refl)
     go (Some (items xs)) h = in_items xs i h
@@ -169,7 +169,7 @@ item_stands M a i h = go (get (part M a) a) h
 pub byte_stands : (M : Memory) (s : Cell) (i : ℕ) → value_at M (loc.Byte s i) ≢ value.Absent → stands M (loc.Byte s i) ≡ true
 byte_stands M s i h = go (get M.strings s) h
   where
-    go : (o : Option (List ℕ)) → told (in_string o i) ≢ value.Absent → is_byte o i ≡ true
+    go : (o : Option (List ℕ)) → value_found (in_string o i) ≢ value.Absent → is_byte o i ≡ true
     go None h = absurd (h refl)
     go (Some bs) h = in_bytes bs i h
 
@@ -193,6 +193,6 @@ pub paper_is_here : (M : Memory) → value_at M loc.Paper ≢ value.Absent → p
 unfolding page_is_here
 paper_is_here M h = go M.page h
   where
-    go : (p : Page) → told (page_found p) ≢ value.Absent → is_here p ≡ true
+    go : (p : Page) → value_found (page_found p) ≢ value.Absent → is_here p ≡ true
     go (here p) h = refl
     go (out w d) h = absurd (h refl)

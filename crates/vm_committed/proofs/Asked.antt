@@ -6,7 +6,7 @@ use Rattle.std.specs.List.{AllByRecursion}
 use Rattle.ps_objects.specs.declared.cell.Cell.{Cell}
 use Rattle.ps_objects.specs.declared.cell.SaveName.{SaveName}
 use Rattle.ps_memory.specs.Order.{cell_cmp}
-use Rattle.ps_memory.specs.Memory.{is_global, newer, Content, dictionary, items, characters, Cells, Memory, part, whole, in_content, shape_in, shape_at}
+use Rattle.ps_memory.specs.Memory.{is_global, newer, Content, dictionary, items, characters, CellMap, Memory, part, whole, in_content, shape_in, shape_at}
 use Rattle.ps_memory.specs.Frame.{later}
 use Rattle.ps_memory.specs.Holders.{HaveHolders}
 use Rattle.vm_mem.specs.Conditions.{MayMake, MayOpen}
@@ -23,10 +23,10 @@ pub no_bytes : (M : Memory) (c : Cell) (strings : FinMap cell_cmp (List ℕ)) �
 no_bytes M c strings h holders e = ap (λ m. get m c) (sym e) ∙ holders c (no_content (get (part M c) c) (make_unused M c h c refl refl))
 
 -- a new save is later than the open ones, and no local cell is newer
-pub save_latest : (M : Memory) (s : SaveName) (kept : List (SaveName × Cells)) → MayOpen M s → M.kept ≡ kept → AllByRecursion (λ k. later s k.0 ≡ true) kept
+pub save_latest : (M : Memory) (s : SaveName) (kept : List (SaveName × CellMap)) → MayOpen M s → M.kept ≡ kept → AllByRecursion (λ k. later s k.0 ≡ true) kept
 save_latest M s kept h e = subst (AllByRecursion (λ k. later s k.0 ≡ true)) e (open_latest M s h)
 
-pub none_newer : (M : Memory) (s : SaveName) (m : Cells) → MayOpen M s → M.locals ≡ m → (c : Cell) → newer c s ≡ true → get m c ≡ None
+pub none_newer : (M : Memory) (s : SaveName) (m : CellMap) → MayOpen M s → M.locals ≡ m → (c : Cell) → newer c s ≡ true → get m c ≡ None
 none_newer M s m h e c n = ap (λ x. get x c) (sym e) ∙ go (is_global c) refl (no_content (get (part M c) c) (open_newest M s h c n).0)
   where
     go : (b : Bool) → is_global c ≡ b → get (part M c) c ≡ None → get M.locals c ≡ None

@@ -6,7 +6,7 @@ use Rattle.ps_objects.specs.declared.place.Loc.{Loc}
 use Rattle.ps_objects.specs.declared.place.Loc.TheVariants as loc
 use Rattle.ps_objects.specs.declared.place.Value.{Value}
 use Rattle.ps_objects.specs.declared.place.Value.TheVariants as value
-use Rattle.ps_memory.specs.Memory.{Content, Memory, part, entry, access, item, whole, held, spot_of, in_content, told, keys_of, value_at}
+use Rattle.ps_memory.specs.Memory.{Content, Memory, part, entry, access, item, whole, held, spot_of, in_content, value_found, keys_of, value_at}
 use Rattle.vm_content.specs.Content.{slot_in, value_in}
 
 -- what a cell that may stand has at a place
@@ -21,9 +21,9 @@ same_value M (loc.Entry d k) c o p h = go o (h ∙ ap (λ q. get (part M q) q) (
     same : held d (entry k) ≡ held c (entry k) → c ≡ d
     same p = cc
 
-    go : (o : Option Content) → o ≡ get (part M d) d → value_of o (loc.Entry d k) ≡ told (in_content (get (part M d) d) (entry k))
-    go None h = ap (λ o. told (in_content o (entry k))) h
-    go (Some x) h = ap (λ o. told (in_content o (entry k))) h
+    go : (o : Option Content) → o ≡ get (part M d) d → value_of o (loc.Entry d k) ≡ value_found (in_content (get (part M d) d) (entry k))
+    go None h = ap (λ o. value_found (in_content o (entry k))) h
+    go (Some x) h = ap (λ o. value_found (in_content o (entry k))) h
 same_value M (loc.Keys d) c o p h = go o (h ∙ ap (λ q. get (part M q) q) (same p))
   where
     same : held d whole ≡ held c whole → c ≡ d
@@ -37,17 +37,17 @@ same_value M (loc.Access d) c o p h = go o (h ∙ ap (λ q. get (part M q) q) (s
     same : held d access ≡ held c access → c ≡ d
     same p = cc
 
-    go : (o : Option Content) → o ≡ get (part M d) d → value_of o (loc.Access d) ≡ told (in_content (get (part M d) d) access)
-    go None h = ap (λ o. told (in_content o access)) h
-    go (Some x) h = ap (λ o. told (in_content o access)) h
+    go : (o : Option Content) → o ≡ get (part M d) d → value_of o (loc.Access d) ≡ value_found (in_content (get (part M d) d) access)
+    go None h = ap (λ o. value_found (in_content o access)) h
+    go (Some x) h = ap (λ o. value_found (in_content o access)) h
 same_value M (loc.Item a i) c o p h = go o (h ∙ ap (λ q. get (part M q) q) (same p))
   where
     same : held a (item i) ≡ held c (item i) → c ≡ a
     same p = cc
 
-    go : (o : Option Content) → o ≡ get (part M a) a → value_of o (loc.Item a i) ≡ told (in_content (get (part M a) a) (item i))
-    go None h = ap (λ o. told (in_content o (item i))) h
-    go (Some x) h = ap (λ o. told (in_content o (item i))) h
+    go : (o : Option Content) → o ≡ get (part M a) a → value_of o (loc.Item a i) ≡ value_found (in_content (get (part M a) a) (item i))
+    go None h = ap (λ o. value_found (in_content o (item i))) h
+    go (Some x) h = ap (λ o. value_found (in_content o (item i))) h
 same_value M (loc.Byte s i) c o p h = cc
 same_value M loc.Rand c o p h = cc
 same_value M loc.Paper c o p h = cc

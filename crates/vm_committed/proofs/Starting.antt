@@ -7,7 +7,7 @@ use Rattle.std.specs.BTreeMap.{is_at}
 use Rattle.std.specs.FinMap.{FinMap, get, from_entries}
 use Rattle.ps_objects.specs.declared.cell.Cell.{Cell}
 use Rattle.ps_memory.specs.Order.{cell_cmp}
-use Rattle.ps_memory.specs.Memory.{is_global, Cells, Memory, here, blank}
+use Rattle.ps_memory.specs.Memory.{is_global, CellMap, Memory, here, blank}
 use Rattle.ps_memory.proofs.Order.{cell_is, cell_itself}
 use Rattle.ps_objects.specs.declared.settings.Settings.{Settings}
 use Rattle.ps_meaning.specs.Start.{version, product, start_locals, start_globals, start_strings, start_memory}
@@ -33,7 +33,7 @@ module _ {X : Type 0} where
       go true i rest = cc (ap is_global (cell_is c e.0 i), h.0, g)
       go false i rest = rest
 
-pub are_local : (m : Cells) → m ≡ from_entries start_locals → AreLocal m
+pub are_local : (m : CellMap) → m ≡ from_entries start_locals → AreLocal m
 are_local m h c g = ap (λ n. get n c) h ∙ cell_found start_locals c ∙ local_entries start_locals (refl, (refl, (refl, (refl, (refl, (refl, (refl, tt))))))) c g
 
 version_there : get (from_entries {R = cell_cmp} start_locals) version ≢ None
@@ -42,7 +42,7 @@ version_there n = (no_entry start_locals version (sym (cell_found start_locals v
 product_there : get (from_entries {R = cell_cmp} start_globals) product ≢ None
 product_there n = (no_entry start_globals product (sym (cell_found start_globals product) ∙ n)).1.1.1.0 refl
 
-pub have_holders : (l g : Cells) (s : FinMap cell_cmp (List ℕ)) → l ≡ from_entries start_locals → g ≡ from_entries start_globals → s ≡ from_entries start_strings → (c : Cell) → get (cond (is_global c) g l) c ≡ None → get s c ≡ None
+pub have_holders : (l g : CellMap) (s : FinMap cell_cmp (List ℕ)) → l ≡ from_entries start_locals → g ≡ from_entries start_globals → s ≡ from_entries start_strings → (c : Cell) → get (cond (is_global c) g l) c ≡ None → get s c ≡ None
 have_holders l g s p q r c n = ap (λ m. get m c) r ∙ cell_found start_strings c ∙ go (is_at (cell_cmp c) version) refl (is_at (cell_cmp c) product) refl
   where
     there : (d : Cell) → c ≡ d → get (cond (is_global d) g l) d ≡ None

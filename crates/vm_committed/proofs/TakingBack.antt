@@ -5,7 +5,7 @@ use Rattle.std.specs.FinMap.{remove}
 use Rattle.ps_objects.specs.declared.cell.Cell.{Cell}
 use Rattle.ps_objects.specs.declared.place.Loc.TheVariants as loc
 use Rattle.ps_objects.specs.declared.place.Value.TheVariants as value
-use Rattle.ps_memory.specs.Memory.{is_global, Cells, Memory, Action, spot_of, with_part, put_cell, perform}
+use Rattle.ps_memory.specs.Memory.{is_global, CellMap, Memory, Action, spot_of, with_part, put_cell, perform}
 use Rattle.ps_memory.proofs.Frame.{kept_store, kept_fresh}
 use Rattle.vm_content.specs.Back.{given_back}
 use Rattle.vm_mem.specs.declared.writes.Write.{Write}
@@ -58,7 +58,7 @@ closed_now M ws h = go M.kept (first_so _ _ h)
 pub closed_after : (M : Memory) (ws : List Write) → stays_closed M ws ≡ true → none_opens ws ≡ true
 closed_after M ws h = second_so _ _ h
 
-kept_part : (M : Memory) (c : Cell) (f : Cells → Cells) → (with_part M c f).kept ≡ M.kept
+kept_part : (M : Memory) (c : Cell) (f : CellMap → CellMap) → (with_part M c f).kept ≡ M.kept
 kept_part M c f = go (is_global c)
   where
     go : (b : Bool) → (cond b (record M { globals = f M.globals }) (record M { locals = f M.locals })).kept ≡ M.kept

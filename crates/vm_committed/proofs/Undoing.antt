@@ -7,7 +7,7 @@ use Rattle.ps_objects.specs.declared.place.Value.TheVariants as value
 use Rattle.ps_objects.specs.declared.place.Shape.{Shape}
 use Rattle.ps_objects.specs.declared.place.Shape.TheVariants as shape
 use Rattle.ps_memory.specs.Order.{cell_cmp}
-use Rattle.ps_memory.specs.Memory.{is_global, Content, dictionary, items, characters, Cells, Memory, Slot, whole, held, byte, in_content, shape_in, part, with_part, put_content, put_byte, put_cell, do_store, content_of, new_bytes, do_fresh}
+use Rattle.ps_memory.specs.Memory.{is_global, Content, dictionary, items, characters, CellMap, Memory, Slot, whole, held, byte, in_content, shape_in, part, with_part, put_content, put_byte, put_cell, do_store, content_of, new_bytes, do_fresh}
 use Rattle.ps_memory.specs.Frame.{IsUnused}
 use Rattle.ps_memory.specs.Ownership.{same_cell}
 use Rattle.ps_memory.proofs.Order.{cells_total, cell_is}
@@ -45,13 +45,13 @@ module _ {X : Type 0} where
 
 -- ---- parts
 
-pub in_locals : (M : Memory) (c : Cell) (f : Cells → Cells) → is_global c ≡ false → with_part M c f ≡ record M { locals = f M.locals }
+pub in_locals : (M : Memory) (c : Cell) (f : CellMap → CellMap) → is_global c ≡ false → with_part M c f ≡ record M { locals = f M.locals }
 in_locals M c f e = ap (λ b. cond b (record M { globals = f M.globals }) (record M { locals = f M.locals })) e
 
-pub in_globals : (M : Memory) (c : Cell) (f : Cells → Cells) → is_global c ≡ true → with_part M c f ≡ record M { globals = f M.globals }
+pub in_globals : (M : Memory) (c : Cell) (f : CellMap → CellMap) → is_global c ≡ true → with_part M c f ≡ record M { globals = f M.globals }
 in_globals M c f e = ap (λ b. cond b (record M { globals = f M.globals }) (record M { locals = f M.locals })) e
 
-part_back : (M : Memory) (c : Cell) (f g : Cells → Cells) → f (g (part M c)) ≡ part M c → with_part (with_part M c g) c f ≡ M
+part_back : (M : Memory) (c : Cell) (f g : CellMap → CellMap) → f (g (part M c)) ≡ part M c → with_part (with_part M c g) c f ≡ M
 part_back M c f g h = go (is_global c) h
   where
     go : (b : Bool) → f (g (cond b M.globals M.locals)) ≡ cond b M.globals M.locals
@@ -61,7 +61,7 @@ part_back M c f g h = go (is_global c) h
     go true h = ap (λ m. record M { globals = m }) h
     go false h = ap (λ m. record M { locals = m }) h
 
-part_same : (M : Memory) (c : Cell) (f : Cells → Cells) → f (part M c) ≡ part M c → with_part M c f ≡ M
+part_same : (M : Memory) (c : Cell) (f : CellMap → CellMap) → f (part M c) ≡ part M c → with_part M c f ≡ M
 part_same M c f h = go (is_global c) h
   where
     go : (b : Bool) → f (cond b M.globals M.locals) ≡ cond b M.globals M.locals → cond b (record M { globals = f M.globals }) (record M { locals = f M.locals }) ≡ M
@@ -110,7 +110,7 @@ bytes_back c (shape.Dict n) m e = twice_removed c m e
 bytes_back c (shape.Array n) m e = twice_removed c m e
 bytes_back c (shape.Str n) m e = taken_back m c (replicate n 0) e
 
-made_back : (M : Memory) (c : Cell) (f g : Cells → Cells) (s t : FinMap cell_cmp (List ℕ)) → f (g (part M c)) ≡ part M c → t ≡ M.strings → record (with_part (record (with_part M c g) { strings = s }) c f) { strings = t } ≡ M
+made_back : (M : Memory) (c : Cell) (f g : CellMap → CellMap) (s t : FinMap cell_cmp (List ℕ)) → f (g (part M c)) ≡ part M c → t ≡ M.strings → record (with_part (record (with_part M c g) { strings = s }) c f) { strings = t } ≡ M
 made_back M c f g s t h k = go (is_global c) h
   where
     after : Bool → Memory
@@ -129,7 +129,7 @@ fresh_back M c sh unused holders =
 
 -- ---- strings and their cells
 
-put_none : (c d : Cell) (f : Content → Content) (m : Cells) → get (put_cell c f m) d ≡ None → get m d ≡ None
+put_none : (c d : Cell) (f : Content → Content) (m : CellMap) → get (put_cell c f m) d ≡ None → get m d ≡ None
 put_none c d f m e = go (same_cell d c) (get m d) (sym (put_at c d f m) ∙ e)
   where
     go : (b : Bool) (o : Option Content) → cond b (mapped f o) o ≡ None → o ≡ None
@@ -144,7 +144,7 @@ holders_given_local M new c f is h d e = h d (go (is_global d) e)
     go true e = e
     go false e = put_none c d f M.locals (sym (ap (λ (p : Part). get p.cells d) is) ∙ e)
 
-pub holders_given_global : (M : Memory) (new : Cells) (c : Cell) (f : Content → Content) → new ≡ put_cell c f M.globals → HaveHolders M → HaveHolders (record M { globals = new })
+pub holders_given_global : (M : Memory) (new : CellMap) (c : Cell) (f : Content → Content) → new ≡ put_cell c f M.globals → HaveHolders M → HaveHolders (record M { globals = new })
 holders_given_global M new c f is h d e = h d (go (is_global d) e)
   where
     go : (y : Bool) → get (cond y new M.locals) d ≡ None → get (cond y M.globals M.locals) d ≡ None
@@ -159,7 +159,7 @@ less_holders M N c is other h d e = ap (λ m. get m d) is ∙ get-remove cells_t
     go true i = refl
     go false i = h d (other d i e)
 
-remove_other : (c d : Cell) (m n : Cells) → n ≡ remove m c → same_cell d c ≡ false → get n d ≡ None → get m d ≡ None
+remove_other : (c d : Cell) (m n : CellMap) → n ≡ remove m c → same_cell d c ≡ false → get n d ≡ None → get m d ≡ None
 remove_other c d m n is i e = sym (ap (λ o. get o d) is ∙ get-remove cells_total m c d ∙ ap (λ b. cond b None (get m d)) i) ∙ e
 
 pub holders_less_local : (M : Memory) (new : Part) (s : FinMap cell_cmp (List ℕ)) (c : Cell) → new ≡ record { cells = remove M.locals c; kept = M.kept } → s ≡ remove M.strings c → HaveHolders M
@@ -170,7 +170,7 @@ holders_less_local M new s c is gone h = less_holders M (record M { locals = new
     go d i true e = e
     go d i false e = remove_other c d M.locals new.cells (ap (λ (p : Part). p.cells) is) i e
 
-pub holders_less_global : (M : Memory) (new : Cells) (s : FinMap cell_cmp (List ℕ)) (c : Cell) → new ≡ remove M.globals c → s ≡ remove M.strings c → HaveHolders M → HaveHolders (record M { globals = new; strings = s })
+pub holders_less_global : (M : Memory) (new : CellMap) (s : FinMap cell_cmp (List ℕ)) (c : Cell) → new ≡ remove M.globals c → s ≡ remove M.strings c → HaveHolders M → HaveHolders (record M { globals = new; strings = s })
 holders_less_global M new s c is gone h = less_holders M (record M { globals = new; strings = s }) c gone (λ d i e. go d i (is_global d) e) h
   where
     go : (d : Cell) → same_cell d c ≡ false → (y : Bool) → get (cond y new M.locals) d ≡ None → get (cond y M.globals M.locals) d ≡ None

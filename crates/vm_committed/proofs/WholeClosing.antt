@@ -9,7 +9,7 @@ use Rattle.std.specs.List.{AllByRecursion}
 use Rattle.ps_objects.specs.declared.cell.Cell.{Cell}
 use Rattle.ps_objects.specs.declared.cell.SaveName.{SaveName}
 use Rattle.ps_memory.specs.Order.{cell_cmp}
-use Rattle.ps_memory.specs.Memory.{is_global, newer, same_save, Cells, Memory, copy_named, older_than}
+use Rattle.ps_memory.specs.Memory.{is_global, newer, same_save, CellMap, Memory, copy_named, older_than}
 use Rattle.ps_memory.specs.Frame.{later}
 use Rattle.ps_memory.proofs.Places.{kept_at}
 use Rattle.ps_memory.proofs.Frame.{save_is}
@@ -41,7 +41,7 @@ newer_later : (c : Cell) (s r : SaveName) → later s r ≡ true → newer c s �
 newer_later c s r l h = ap (λ b. b && is_gt (ordering_then (nat_cmp c.section r.section) (nat_cmp c.count r.count))) (first_so _ _ h) ∙ after_later c.section c.count s r (second_so _ _ h) l
 
 -- a save that is later than all of these is later than the one of this name
-later_named : (s name : SaveName) (kept : List (SaveName × Cells)) → AllByRecursion (λ k. later s k.0 ≡ true) kept → copy_named name kept ≢ None → later s name ≡ true
+later_named : (s name : SaveName) (kept : List (SaveName × CellMap)) → AllByRecursion (λ k. later s k.0 ≡ true) kept → copy_named name kept ≢ None → later s name ≡ true
 later_named s name [] a h = absurd (h refl)
 later_named s name (k ∷ kept) a h = go (same_save name k.0) refl (later_named s name kept a.1)
   where
@@ -74,7 +74,7 @@ module _ (name s : SaveName) (old new : Part) (before after : FinMap cell_cmp (L
 
 -- ---- the whole memory
 
-pub holders_kept : (M : Memory) (locals : Cells) (strings : FinMap cell_cmp (List ℕ)) (kept : List (SaveName × Cells)) → ((c : Cell) → get M.strings c ≡ None → get strings c ≡ None) → HaveCells strings locals
+pub holders_kept : (M : Memory) (locals : CellMap) (strings : FinMap cell_cmp (List ℕ)) (kept : List (SaveName × CellMap)) → ((c : Cell) → get M.strings c ≡ None → get strings c ≡ None) → HaveCells strings locals
     → HaveHolders M → HaveHolders (record M { locals = locals; strings = strings; kept = kept })
 holders_kept M locals strings kept fewer own h d = go (is_global d) refl
   where

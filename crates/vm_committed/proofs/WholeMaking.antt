@@ -5,7 +5,7 @@ use Rattle.std.specs.BTreeMap.{is_at}
 use Rattle.std.specs.FinMap.{FinMap, from_entries, get, insert, remove, get-insert, get-remove}
 use Rattle.ps_objects.specs.declared.cell.Cell.{Cell}
 use Rattle.ps_memory.specs.Order.{cell_cmp}
-use Rattle.ps_memory.specs.Memory.{is_global, Content, Cells, Memory, part, with_part}
+use Rattle.ps_memory.specs.Memory.{is_global, Content, CellMap, Memory, part, with_part}
 use Rattle.ps_memory.specs.Ownership.{same_cell}
 use Rattle.ps_memory.proofs.Order.{cells_total, cell_is}
 use Rattle.ps_memory.proofs.Places.{part_here, part_other, insert_here, insert_other}
@@ -30,7 +30,7 @@ module _ {X : Type 0} where
       go q true i = sym (ap (get m) (cell_is q c i) ∙ e)
       go q false i = refl
 
-made_parts : (M : Memory) (new : Part) (globals : Cells) (c : Cell) (x : Content)
+made_parts : (M : Memory) (new : Part) (globals : CellMap) (c : Cell) (x : Content)
     → new ≡ record { cells = cond (is_global c) M.locals (insert M.locals c x); kept = M.kept } → globals ≡ cond (is_global c) (insert M.globals c x) M.globals
     → (d : Cell) → get (cond (is_global d) globals new.cells) d ≡ get (part (with_part M c (λ m. insert m c x)) d) d
 made_parts M new globals c x p q d = ap (λ (n : Part). get (cond (is_global d) globals n.cells) d) p ∙ ap (λ g. get (cond (is_global d) g (cond (is_global c) M.locals (insert M.locals c x))) d) q ∙ go (is_global c) (is_global d)
@@ -43,13 +43,13 @@ made_parts M new globals c x p q d = ap (λ (n : Part). get (cond (is_global d) 
     go false false = refl
 
 -- the new cell stands, and the strings of others are as before
-pub holders_made : (M : Memory) (new : Part) (globals : Cells) (strings : FinMap cell_cmp (List ℕ)) (c : Cell) (x : Content)
+pub holders_made : (M : Memory) (new : Part) (globals : CellMap) (strings : FinMap cell_cmp (List ℕ)) (c : Cell) (x : Content)
     → new ≡ record { cells = cond (is_global c) M.locals (insert M.locals c x); kept = M.kept } → globals ≡ cond (is_global c) (insert M.globals c x) M.globals
     → ((d : Cell) → same_cell d c ≡ false → get strings d ≡ get M.strings d) → HaveHolders M
     → HaveHolders (record M { locals = new.cells; globals = globals; strings = strings; kept = new.kept })
 holders_made M new globals strings c x p q others h d e = go (same_cell d c) refl (sym (made_parts M new globals c x p q d) ∙ e)
   where
-    f : Cells → Cells
+    f : CellMap → CellMap
     f = λ m. insert m c x
 
     go : (b : Bool) → same_cell d c ≡ b → get (part (with_part M c f) d) d ≡ None → get strings d ≡ None

@@ -6,7 +6,7 @@ use Rattle.std.specs.FinMap.{FinMap, get, from_entries}
 use Rattle.ps_objects.specs.declared.cell.Cell.{Cell}
 use Rattle.ps_objects.specs.declared.place.Value.{Value}
 use Rattle.ps_memory.specs.Order.{cell_cmp}
-use Rattle.ps_memory.specs.Memory.{is_global, Cells, Memory, Slot, put_content, put_byte, put_cell}
+use Rattle.ps_memory.specs.Memory.{is_global, CellMap, Memory, Slot, put_content, put_byte, put_cell}
 use Rattle.ps_memory.specs.Ownership.{same_cell}
 use Rattle.ps_memory.proofs.Places.{mapped, put_at}
 use Rattle.ps_memory.proofs.Keeping.{same_maps}
@@ -58,7 +58,7 @@ holders_local (Ok a) M new c t v ok err h d e = h d (go (is_global d) e)
     go false e = put_none c d (put_content t v) M.locals (sym (ap (λ p. get p.cells d) ok) ∙ e)
 holders_local (Err a) M new c t v ok err h d e = h d (sym (ap (λ (p : Part). get (cond (is_global d) M.globals p.cells) d) err) ∙ e)
 
-pub holders_global : {A E : Type 0} (r : Result A E) (M : Memory) (new : Cells) (c : Cell) (t : Slot) (v : Value)
+pub holders_global : {A E : Type 0} (r : Result A E) (M : Memory) (new : CellMap) (c : Cell) (t : Slot) (v : Value)
     → OnOk r (new ≡ put_cell c (put_content t v) M.globals) → OnErr r (new ≡ M.globals) → HaveHolders M → HaveHolders (record M { globals = new })
 holders_global (Ok a) M new c t v ok err h d e = h d (go (is_global d) e)
   where

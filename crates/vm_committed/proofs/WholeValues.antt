@@ -8,7 +8,7 @@ use Rattle.ps_objects.specs.declared.place.Loc.{Loc}
 use Rattle.ps_objects.specs.declared.place.Loc.TheVariants as loc
 use Rattle.ps_objects.specs.declared.place.Value.{Value}
 use Rattle.ps_objects.specs.declared.place.Value.TheVariants as value
-use Rattle.ps_memory.specs.Memory.{Content, Memory, Slot, entry, access, item, whole, held, spot_of, in_content, object_found, told, keys_of, part, seen_at, value_at}
+use Rattle.ps_memory.specs.Memory.{Content, Memory, Slot, entry, access, item, whole, held, spot_of, in_content, object_found, value_found, keys_of, part, seen_at, value_at}
 use Rattle.vm_content.specs.Content.{slot_in, value_in}
 use Rattle.vm_mem.specs.declared.glance.Glance.{Glance}
 use Rattle.vm_mem.specs.declared.glance.Glance.TheVariants.{Absent}
@@ -16,9 +16,9 @@ use Rattle.vm_mem.specs.Glances.{glance_at}
 
 -- what is seen in a cell that holds this, if anything
 abbrev seen_in : Option Content → Slot → Value
-seen_in o (entry k) = told (in_content o (entry k))
-seen_in o access = told (in_content o access)
-seen_in o (item i) = told (in_content o (item i))
+seen_in o (entry k) = value_found (in_content o (entry k))
+seen_in o access = value_found (in_content o access)
+seen_in o (item i) = value_found (in_content o (item i))
 seen_in o whole = keys_of o
 
 seen_held : (M : Memory) (c : Cell) (t : Slot) → seen_at M (held c t) ≡ seen_in (get (part M c) c) t
@@ -51,19 +51,19 @@ held_missing M l c e p = ap (seen_at M) p ∙ seen_held M c (slot_in l) ∙ ap (
 -- ---- glances
 
 module _ (M : Memory) (c : Cell) (t : Slot) (g : Glance) where
-  glance_found : (x : Content) (o : Option Object) → Some x ≡ get (part M c) c → object_found o ≡ in_content (Some x) t → g ≡ glance_at (told (object_found o)) → g ≡ glance_at (told (in_content (get (part M c) c) t))
-  glance_found x o e f h = h ∙ ap (λ y. glance_at (told y)) (f ∙ ap (λ o. in_content o t) e)
+  glance_found : (x : Content) (o : Option Object) → Some x ≡ get (part M c) c → object_found o ≡ in_content (Some x) t → g ≡ glance_at (value_found (object_found o)) → g ≡ glance_at (value_found (in_content (get (part M c) c) t))
+  glance_found x o e f h = h ∙ ap (λ y. glance_at (value_found y)) (f ∙ ap (λ o. in_content o t) e)
 
-  glance_missing : None ≡ get (part M c) c → Absent ≡ glance_at (told (in_content (get (part M c) c) t))
-  glance_missing e = ap (λ o. glance_at (told (in_content o t))) e
+  glance_missing : None ≡ get (part M c) c → Absent ≡ glance_at (value_found (in_content (get (part M c) c) t))
+  glance_missing e = ap (λ o. glance_at (value_found (in_content o t))) e
 
-pub item_found : (M : Memory) (a : Cell) (i : ℕ) (g : Glance) (x : Content) (o : Option Object) → Some x ≡ get (part M a) a → object_found o ≡ in_content (Some x) (item i) → g ≡ glance_at (told (object_found o)) → g ≡ glance_at (value_at M (loc.Item a i))
+pub item_found : (M : Memory) (a : Cell) (i : ℕ) (g : Glance) (x : Content) (o : Option Object) → Some x ≡ get (part M a) a → object_found o ≡ in_content (Some x) (item i) → g ≡ glance_at (value_found (object_found o)) → g ≡ glance_at (value_at M (loc.Item a i))
 item_found M a i g x o e f h = glance_found M a (item i) g x o e f h
 
 pub item_missing : (M : Memory) (a : Cell) (i : ℕ) → None ≡ get (part M a) a → Absent ≡ glance_at (value_at M (loc.Item a i))
 item_missing M a i e = glance_missing M a (item i) Absent e
 
-pub entry_found : (M : Memory) (d : Cell) (k : Key) (g : Glance) (x : Content) (o : Option Object) → Some x ≡ get (part M d) d → object_found o ≡ in_content (Some x) (entry k) → g ≡ glance_at (told (object_found o)) → g ≡ glance_at (value_at M (loc.Entry d k))
+pub entry_found : (M : Memory) (d : Cell) (k : Key) (g : Glance) (x : Content) (o : Option Object) → Some x ≡ get (part M d) d → object_found o ≡ in_content (Some x) (entry k) → g ≡ glance_at (value_found (object_found o)) → g ≡ glance_at (value_at M (loc.Entry d k))
 entry_found M d k g x o e f h = glance_found M d (entry k) g x o e f h
 
 pub entry_missing : (M : Memory) (d : Cell) (k : Key) → None ≡ get (part M d) d → Absent ≡ glance_at (value_at M (loc.Entry d k))

@@ -11,6 +11,7 @@ use Rattle.vm_committed.specs.declared.undo.Undo.TheVariants.{Nothing, Made, Hel
 use Rattle.vm_mem.specs.declared.writes.Write.{Write}
 use Rattle.vm_mem.specs.declared.writes.Write.TheVariants.{Save}
 
+-- a memory as it was before a write
 abbrev pub taken_back : Undo → Memory → Memory
 taken_back Nothing M = M
 taken_back (Made c) M = record (with_part M c (λ m. remove m c)) { strings = remove M.strings c }
@@ -24,6 +25,7 @@ abbrev pub all_taken_back : List Undo → Memory → Memory
 all_taken_back [] M = M
 all_taken_back (u ∷ us) M = all_taken_back us (taken_back u M)
 
+-- the write opens no save
 abbrev pub opens_none : Write → Bool
 opens_none (Save s) = false
 opens_none _ = true

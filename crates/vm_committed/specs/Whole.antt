@@ -14,27 +14,33 @@ use Rattle.vm_journal.specs.Part.{cells_code, kept_code}
 use Rattle.vm_committed.specs.declared.page.Page.{Page}
 use Rattle.vm_committed.specs.declared.page.Page.TheVariants.{Here, Out}
 
+-- the page of the definition
 abbrev pub page_of : Page → spec.Page
 page_of (Here paper) = here paper
 page_of (Out width height) = out width height
 
 -- ---- how a memory is told from another
 
+-- the parts of a page
 abbrev page_parts : spec.Page → Sheet ⊎ (ℕ × ℕ)
 page_parts (here p) = inl p
 page_parts (out w h) = inr (w, h)
 
+-- the page of such parts
 abbrev of_page_parts : Sheet ⊎ (ℕ × ℕ) → spec.Page
 of_page_parts (inl p) = here p
 of_page_parts (inr p) = out p.0 p.1
 
+-- its parts tell a page
 abbrev same_page_parts : (x : spec.Page) → of_page_parts (page_parts x) ≡ x
 same_page_parts (here p) = refl
 same_page_parts (out w h) = refl
 
+-- pages are told from each other by their parts
 abbrev page_code : Coded spec.Page
 page_code = code_by _ (coded⊎ papers.the_row.coded (coded× coded_ℕ coded_ℕ)) page_parts of_page_parts same_page_parts
 
+-- memories are told from each other by their parts
 abbrev pub memory_code : Coded Memory
 memory_code = code_by _
     (coded× cells_code (coded× cells_code (coded× (map.code cells.the_row.coded (coded_list coded_ℕ)) (coded× coded_ℕ (coded× page_code kept_code)))))

@@ -4,7 +4,7 @@ ghost use Rattle.std.specs.FinMap.{get, insert, from_entries};
 ghost use Rattle.std.specs.List.{AllByRecursion};
 ghost use Rattle.ps_memory.specs.Order.{cell_cmp};
 ghost use Rattle.ps_objects.specs.declared.place.Value.TheVariants as value;
-ghost use Rattle.ps_memory.specs.Memory.{is_global, newer, part, with_part, value_at, told, in_string, page_found, is_slot, is_kind, held, byte, rand, paper, spot_of, put_content, put_byte, put_cell, do_store, copy_named, older_than};
+ghost use Rattle.ps_memory.specs.Memory.{is_global, newer, part, with_part, value_at, value_found, in_string, page_found, is_slot, is_kind, held, byte, rand, paper, spot_of, put_content, put_byte, put_cell, do_store, copy_named, older_than};
 ghost use Rattle.vm_content.specs.Content.{slot_in};
 ghost use Rattle.ps_memory.specs.Holders.{HaveHolders};
 ghost use Rattle.vm_journal.specs.Part.{HaveCells, kept_from};
@@ -88,7 +88,7 @@ impl Cells {
     /// The byte at a place of a string.
     #[tactic(auto, using(vm_content::proofs::Cells::cell_found))]
     pub(crate) fn byte(&self, string: Cell, at: u32) -> Value
-        ensures { result ≡ told (in_string (get self.now.strings string) at) }
+        ensures { result ≡ value_found (in_string (get self.now.strings string) at) }
     {
         match self.strings.get(&string) {
             Some(bytes) => match bytes.get(at) {
@@ -101,7 +101,7 @@ impl Cells {
 
     /// A copy of the paper.
     pub(crate) fn paper(&self) -> Result<Value, NoMemory>
-        ensures { IfOk result (λ value. value ≡ told (page_found self.now.page)) }
+        ensures { IfOk result (λ value. value ≡ value_found (page_found self.now.page)) }
     {
         match &self.page {
             Page::Here(paper) => Ok(Value::Paper(paper.copy()?)),

@@ -2,7 +2,7 @@
 ghost use Rattle.std.specs.Prelude.{◌≡◌, None, OnOk, OnErr, option_copied};
 ghost use Rattle.ps_objects.specs.declared.place.Loc.TheVariants as loc;
 ghost use Rattle.ps_objects.specs.declared.place.Value.TheVariants as value;
-ghost use Rattle.ps_memory.specs.Memory.{told, object_found, store, fresh, save, perform};
+ghost use Rattle.ps_memory.specs.Memory.{value_found, object_found, store, fresh, save, perform};
 ghost use Rattle.vm_mem.specs.Conditions.{MayStore, MayMake, MayOpen};
 ghost use Rattle.vm_mem.specs.Glances.{glance_at};
 
@@ -15,7 +15,7 @@ use vm_mem::{Base, Glance, Mem, RestoreRefusal};
 
 /// What a glance tells of the object at a place, if there is one.
 fn glance_of(object: Option<&Object>) -> Glance
-    ensures { result ≡ glance_at (told (object_found (option_copied object.entry))) }
+    ensures { result ≡ glance_at (value_found (object_found (option_copied object.entry))) }
 {
     match object {
         Some(object) => Glance::of(object),

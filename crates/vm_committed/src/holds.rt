@@ -2,7 +2,7 @@
 ghost use Rattle.std.specs.Prelude.{◌≡◌, IsTrue, ◌↔◌};
 ghost use Rattle.std.specs.FinMap.{get};
 ghost use Rattle.ps_objects.specs.declared.place.Value.TheVariants as values;
-ghost use Rattle.ps_memory.specs.Memory.{held, spot_of, told, byte_found, in_string, page_found, value_at};
+ghost use Rattle.ps_memory.specs.Memory.{held, spot_of, value_found, byte_found, in_string, page_found, value_at};
 ghost use Rattle.vm_content.specs.Content.{slot_in};
 ghost use Rattle.vm_committed.specs.Whole.{page_of};
 
@@ -45,7 +45,7 @@ fn is_absent(value: &Value) -> bool
 }
 
 pub(crate) fn is_byte(byte: Option<u8>, value: &Value) -> bool
-    ensures { IsTrue result ↔ (told (byte_found byte) ≡ value.now) }
+    ensures { IsTrue result ↔ (value_found (byte_found byte) ≡ value.now) }
 {
     match byte {
         Some(byte) => match value {
@@ -73,7 +73,7 @@ fn are_equal(paper: &Paper, other: &Paper) -> bool
 }
 
 pub(crate) fn is_paper(page: &Page, value: &Value) -> bool
-    ensures { IsTrue result ↔ (told (page_found (page_of page.now)) ≡ value.now) }
+    ensures { IsTrue result ↔ (value_found (page_found (page_of page.now)) ≡ value.now) }
 {
     match page {
         Page::Here(paper) => match value {

@@ -12,7 +12,7 @@ pub(crate) enum Page {
 
 impl Page {
     ghost use Rattle.std.specs.Prelude.{◌≡◌, true, IfOk};
-    ghost use Rattle.ps_memory.specs.Memory.{here, taken_out};
+    ghost use Rattle.ps_memory.specs.Memory.{here, page_out};
     ghost use Rattle.vm_mem.specs.Conditions.{is_here};
     ghost use Rattle.vm_committed.specs.Whole.{page_of};
 
@@ -20,7 +20,7 @@ impl Page {
     pub(crate) fn take(&mut self) -> Paper
         requires { is_here (page_of self.old) ≡ true }
         ensures paper { page_of self.old ≡ here result }
-        ensures out { page_of self.new ≡ taken_out (page_of self.old) }
+        ensures out { page_of self.new ≡ page_out (page_of self.old) }
     {
         let nowhere = Page::Out {
             width: 0,

@@ -11,7 +11,7 @@ use Rattle.ps_objects.specs.declared.place.Loc.TheVariants as loc
 use Rattle.ps_objects.specs.declared.place.Value.{Value}
 use Rattle.ps_objects.specs.declared.place.Value.TheVariants as value
 use Rattle.ps_memory.specs.Order.{key_cmp}
-use Rattle.ps_memory.specs.Memory.{Content, dictionary, items, characters, told, object_found, put_entry, put_item, put_content}
+use Rattle.ps_memory.specs.Memory.{Content, dictionary, items, characters, value_found, object_found, put_entry, put_item, put_content}
 use Rattle.ps_memory.proofs.Order.{keys_total, keys_antisymmetric, key_is, key_itself}
 use Rattle.vm_content.specs.Content.{slot_in, value_in}
 use Rattle.vm_content.specs.Back.{over_entry, entry_back, content_back}
@@ -56,7 +56,7 @@ beside k w es q i = get-insert keys_total es k w q ∙ ap (λ b. cond b (Some w)
 put_there : (k : Key) (w : Object) (es : FinMap key_cmp Object) → get (insert es k w) k ≡ Some w
 put_there k w es = get-insert keys_total es k w k ∙ ap (λ b. cond b (Some w) (get es k)) (key_itself k)
 
-put_entry_back : (k : Key) (v : Value) (es : FinMap key_cmp Object) → (value.Absent ≡ v → true ≡ false) → (o : Option Object) → get es k ≡ o → entry_back k (told (object_found o)) (put_entry k v es) ≡ es
+put_entry_back : (k : Key) (v : Value) (es : FinMap key_cmp Object) → (value.Absent ≡ v → true ≡ false) → (o : Option Object) → get es k ≡ o → entry_back k (value_found (object_found o)) (put_entry k v es) ≡ es
 put_entry_back k value.Absent es h o e = absurd (true≢false (h refl))
 put_entry_back k (value.Object w) es h None e = removed_back k es (insert es k w) e (beside k w es)
 put_entry_back k (value.Object w) es h (Some y) e = over_back k y w es (insert es k w) e (put_there k w es) (beside k w es)
@@ -80,7 +80,7 @@ set_back [] i x y e = refl
 set_back (z ∷ zs) zero x y e = cc
 set_back (z ∷ zs) (suc i) x y e = ap (λ ys. z ∷ ys) (set_back zs i x y e)
 
-put_item_back : (i : ℕ) (v : Value) (xs : List Object) (o : Option Object) → slice_get xs i ≡ o → put_item i (told (object_found o)) (put_item i v xs) ≡ xs
+put_item_back : (i : ℕ) (v : Value) (xs : List Object) (o : Option Object) → slice_get xs i ≡ o → put_item i (value_found (object_found o)) (put_item i v xs) ≡ xs
 put_item_back i (value.Object w) xs None e = set_beyond xs i w e
 put_item_back i (value.Object w) xs (Some y) e = set_back xs i w y e
 put_item_back i _ xs None e = refl
@@ -103,7 +103,7 @@ place_back (loc.Byte d i) v x b h e = refl
 place_back loc.Rand v x b h e = refl
 place_back loc.Paper v x b h e = refl
 
-none_removed : (k : Key) (es : FinMap key_cmp Object) (o : Option Object) → get es k ≡ o → told (object_found o) ≡ value.Absent → remove es k ≡ es
+none_removed : (k : Key) (es : FinMap key_cmp Object) (o : Option Object) → get es k ≡ o → value_found (object_found o) ≡ value.Absent → remove es k ≡ es
 none_removed k es None e i = removed_back k es es e (λ q j. refl)
 none_removed k es (Some y) e i = cc
 

@@ -15,11 +15,13 @@ use Rattle.vm_content.specs.declared.before.Before.TheVariants.{Same, Place, Who
 abbrev pub over_entry : Key → Object → FinMap key_cmp Object → FinMap key_cmp Object
 over_entry k x es = elim (get es k) as (λ _. FinMap key_cmp Object) [ None ↦ es | Some y ↦ insert es k x ]
 
+-- the entries with what a key had put back
 abbrev pub entry_back : Key → Value → FinMap key_cmp Object → FinMap key_cmp Object
 entry_back k value.Absent es = remove es k
 entry_back k (value.Object x) es = over_entry k x es
 entry_back k _ es = es
 
+-- what a cell holds with what a place had put back
 abbrev pub content_back : Slot → Value → Content → Content
 content_back (entry k) v (dictionary n a es) = dictionary n a (entry_back k v es)
 content_back (entry k) v x = x

@@ -4,7 +4,7 @@ use Rattle.ps_objects.specs.declared.place.Loc.{Loc}
 use Rattle.ps_objects.specs.declared.place.Loc.TheVariants as loc
 use Rattle.ps_objects.specs.declared.place.Value.{Value}
 use Rattle.ps_objects.specs.declared.place.Value.TheVariants as value
-use Rattle.ps_memory.specs.Memory.{Content, Slot, entry, access, item, whole, in_content, told, keys_of}
+use Rattle.ps_memory.specs.Memory.{Content, Slot, entry, access, item, whole, in_content, value_found, keys_of}
 
 -- the part of a cell that a place names
 abbrev pub slot_in : Loc → Slot
@@ -18,8 +18,8 @@ slot_in loc.Paper = whole
 
 -- what a cell has at a place of its own, bytes aside
 abbrev pub value_in : Content → Loc → Value
-value_in x (loc.Entry d k) = told (in_content (Some x) (entry k))
+value_in x (loc.Entry d k) = value_found (in_content (Some x) (entry k))
 value_in x (loc.Keys d) = keys_of (Some x)
-value_in x (loc.Access d) = told (in_content (Some x) access)
-value_in x (loc.Item a i) = told (in_content (Some x) (item i))
+value_in x (loc.Access d) = value_found (in_content (Some x) access)
+value_in x (loc.Item a i) = value_found (in_content (Some x) (item i))
 value_in x _ = value.Absent

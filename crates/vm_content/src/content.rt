@@ -2,7 +2,7 @@
 ghost use Rattle.std.specs.Prelude.{◌≡◌, replicate, IfOk, OnOk, OnErr, IsTrue, ◌↔◌, Some, option_copied};
 ghost use Rattle.std.specs.FinMap.{from_entries};
 ghost use Rattle.ps_memory.specs.Order.{key_cmp};
-ghost use Rattle.ps_memory.specs.Memory.{dictionary, content_of, put_content, shape_in, in_content, whole, entry, access, item, told, keys_of, object_found, null_object, put_entry, put_item};
+ghost use Rattle.ps_memory.specs.Memory.{dictionary, content_of, put_content, shape_in, in_content, whole, entry, access, item, value_found, keys_of, object_found, null_object, put_entry, put_item};
 ghost use Rattle.ps_objects.specs.declared.place.Value.TheVariants as values;
 ghost use Rattle.std.specs.Cmp.Lexicographic.{pointwise};
 ghost use Rattle.std.specs.BTreeMap.{keys as map_keys, IsOrdered};
@@ -207,7 +207,7 @@ impl Content {
     }
 
     fn access(&self) -> Value
-        ensures { result ≡ told (in_content (Some self.now) access) }
+        ensures { result ≡ value_found (in_content (Some self.now) access) }
     {
         match &self.inner {
             Inner::Dictionary { access, .. } => Value::Access(*access),
@@ -216,7 +216,7 @@ impl Content {
     }
 
     fn has_access(&self, value: &Value) -> bool
-        ensures { IsTrue result ↔ (told (in_content (Some self.now) access) ≡ value.now) }
+        ensures { IsTrue result ↔ (value_found (in_content (Some self.now) access) ≡ value.now) }
     {
         match &self.inner {
             Inner::Dictionary { access, .. } => match value {
@@ -320,7 +320,7 @@ pub(crate) fn is_absent(value: &Value) -> bool
 }
 
 fn copy_found(object: Option<&Object>) -> Result<Value, NoMemory>
-    ensures { IfOk result (λ value. value ≡ told (object_found (option_copied object.entry))) }
+    ensures { IfOk result (λ value. value ≡ value_found (object_found (option_copied object.entry))) }
 {
     match object {
         Some(object) => Ok(Value::Object(object.copy()?)),
@@ -329,7 +329,7 @@ fn copy_found(object: Option<&Object>) -> Result<Value, NoMemory>
 }
 
 fn is_found(object: Option<&Object>, value: &Value) -> bool
-    ensures { IsTrue result ↔ (told (object_found (option_copied object.entry)) ≡ value.now) }
+    ensures { IsTrue result ↔ (value_found (object_found (option_copied object.entry)) ≡ value.now) }
 {
     match object {
         Some(object) => match value {

@@ -5,7 +5,7 @@ use Rattle.std.specs.FinMap.{FinMap, get}
 use Rattle.ps_objects.specs.declared.cell.Cell.{Cell}
 use Rattle.ps_objects.specs.declared.cell.SaveName.{SaveName}
 use Rattle.ps_memory.specs.Order.{cell_cmp}
-use Rattle.ps_memory.specs.Memory.{newer, Cells}
+use Rattle.ps_memory.specs.Memory.{newer, CellMap}
 use Rattle.ps_memory.proofs.Places.{kept_at}
 use Rattle.vm_journal.specs.Journal.{Note, Saved, reverted, as_saved, copies, is_latest, is_rising}
 use Rattle.vm_journal.specs.Part.{Part, AreLocal, HaveCells, kept_from, Closes}
@@ -22,13 +22,13 @@ pub fewer_left : (s : SaveName) (t u : FinMap cell_cmp (List ℕ)) → u ≡ kep
 fewer_left s t u e c h = ap (λ f. get f c) e ∙ none_kept s c t h
 
 -- the cells are still local
-pub closed_local : (saves rest : List Saved) (s : Saved) (name : SaveName) (m d n : Cells) → saves ≡ s ∷ rest → d ≡ kept_from name m → ((c : Cell) → get d c ≡ None → get n c ≡ None)
+pub closed_local : (saves rest : List Saved) (s : Saved) (name : SaveName) (m d n : CellMap) → saves ≡ s ∷ rest → d ≡ kept_from name m → ((c : Cell) → get d c ≡ None → get n c ≡ None)
     → AreLocal m × (is_rising saves ≡ true) → AreLocal n × (is_rising rest ≡ true)
 closed_local saves rest s name m d n e k gone h =
     (λ c g. gone c (ap (λ f. get f c) k ∙ none_kept name c m (h.0 c g)), second_so _ _ (sym (ap is_rising e) ∙ h.1))
 
 -- each string that is left is a cell's
-pub closed_cells : (p : Part) (name : SaveName) (m d n : Cells) (t u : FinMap cell_cmp (List ℕ)) → p.cells ≡ m → d ≡ kept_from name m → ((c : Cell) → get n c ≡ None → get d c ≡ None)
+pub closed_cells : (p : Part) (name : SaveName) (m d n : CellMap) (t u : FinMap cell_cmp (List ℕ)) → p.cells ≡ m → d ≡ kept_from name m → ((c : Cell) → get n c ≡ None → get d c ≡ None)
     → u ≡ kept_from name t → HaveCells t p.cells → HaveCells u n
 closed_cells p name m d n t u i k there e h c g o = ap (λ f. get f c) e ∙ kept_at name c t ∙ go (newer c name) refl
   where
@@ -39,7 +39,7 @@ closed_cells p name m d n t u i k there e h c g o = ap (λ f. get f c) e ∙ kep
     go true w = refl
     go false w = h c g (ap (λ f. get f c) i ∙ old w)
 
-pub closed : (p : Part) (saves rest : List Saved) (s : Saved) (name : SaveName) (notes : List Note) (m d n : Cells) (t u : FinMap cell_cmp (List ℕ)) → ◌≡◌ {A = Part} (record { cells = m; kept = copies saves m }) p
+pub closed : (p : Part) (saves rest : List Saved) (s : Saved) (name : SaveName) (notes : List Note) (m d n : CellMap) (t u : FinMap cell_cmp (List ℕ)) → ◌≡◌ {A = Part} (record { cells = m; kept = copies saves m }) p
     → saves ≡ s ∷ rest → name ≡ s.0 → notes ≡ s.1 → d ≡ kept_from name m → n ≡ reverted notes d → u ≡ kept_from name t → is_rising saves ≡ true
     → Closes (Some name) p (record { cells = n; kept = copies rest n }) t u
 closed p saves rest s name notes m d n t u v e a b k r w h = (

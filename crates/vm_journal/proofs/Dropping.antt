@@ -6,7 +6,7 @@ use Rattle.std.specs.BTreeMap.{BTreeMap, is_at, Updates, IsUpperBound}
 use Rattle.ps_objects.specs.declared.cell.Cell.{Cell}
 use Rattle.ps_objects.specs.declared.cell.SaveName.{SaveName}
 use Rattle.ps_memory.specs.Order.{cell_cmp}
-use Rattle.ps_memory.specs.Memory.{is_global, newer, Content, Cells}
+use Rattle.ps_memory.specs.Memory.{is_global, newer, Content, CellMap}
 use Rattle.ps_memory.specs.Ownership.{same_cell}
 use Rattle.ps_memory.proofs.Order.{cells_total}
 use Rattle.ps_memory.proofs.Keeping.{keep_all, keep_change}
@@ -15,16 +15,16 @@ use Rattle.vm_content.proofs.Cells.{cell_found, cell_removed, last_is_greatest, 
 use Rattle.vm_journal.specs.Part.{AreLocal, HaveCells, kept_from}
 
 -- some of the cells that come after a save are gone, each with its string
-pub record Dropped (s : SaveName) (m : Cells) (t : FinMap cell_cmp (List ℕ)) (n : Cells) (u : FinMap cell_cmp (List ℕ)) : Type 0 where
+pub record Dropped (s : SaveName) (m : CellMap) (t : FinMap cell_cmp (List ℕ)) (n : CellMap) (u : FinMap cell_cmp (List ℕ)) : Type 0 where
   pub cells : retain_keys n (λ c. not (comes_after c s)) ≡ retain_keys m (λ c. not (comes_after c s))
   pub strings : kept_from s u ≡ kept_from s t
   pub are_local : AreLocal n
   pub have_cells : HaveCells u n
 
-pub none_dropped : (s : SaveName) (m : Cells) (t : FinMap cell_cmp (List ℕ)) → AreLocal m → HaveCells t m → Dropped s m t m t
+pub none_dropped : (s : SaveName) (m : CellMap) (t : FinMap cell_cmp (List ℕ)) → AreLocal m → HaveCells t m → Dropped s m t m t
 none_dropped s m t a h = record { cells = refl; strings = refl; are_local = a; have_cells = h }
 
-stands_local : (m : Cells) (k : Cell) (x : Content) → AreLocal m → get m k ≡ Some x → is_global k ≡ false
+stands_local : (m : CellMap) (k : Cell) (x : Content) → AreLocal m → get m k ≡ Some x → is_global k ≡ false
 stands_local m k x a e = go (is_global k) refl
   where
     go : (b : Bool) → is_global k ≡ b → b ≡ false
@@ -37,7 +37,7 @@ stands_local m k x a e = go (is_global k) refl
 is_newer : (k : Cell) (s : SaveName) → is_global k ≡ false → comes_after k s ≡ true → newer k s ≡ true
 is_newer k s g h = ap (λ b. not b && comes_after k s) g ∙ h
 
-pub one_dropped : (s : SaveName) (m n : Cells) (t u : FinMap cell_cmp (List ℕ)) (k : Cell) (x : Content) → Dropped s m t n u → get n k ≡ Some x → comes_after k s ≡ true → Dropped s m t (remove n k) (remove u k)
+pub one_dropped : (s : SaveName) (m n : CellMap) (t u : FinMap cell_cmp (List ℕ)) (k : Cell) (x : Content) → Dropped s m t n u → get n k ≡ Some x → comes_after k s ≡ true → Dropped s m t (remove n k) (remove u k)
 one_dropped s m n t u k x d e h = record {
   cells = kept_removed n k (λ c. not (comes_after c s)) (ap not h) ∙ d.cells;
   strings = keep_change s k u (remove u k) (is_newer k s (stands_local n k x d.are_local e) h) (λ q i. get-remove cells_total u k q ∙ ap (λ b. cond b None (get u q)) i) ∙ d.strings;
@@ -53,7 +53,7 @@ one_dropped s m n t u k x d e h = record {
     absent q true i f = refl
     absent q false i f = f i
 
-same_tests : (m : Cells) (s : SaveName) → AreLocal m → retain_keys m (λ c. not (comes_after c s)) ≡ kept_from s m
+same_tests : (m : CellMap) (s : SaveName) → AreLocal m → retain_keys m (λ c. not (comes_after c s)) ≡ kept_from s m
 same_tests m s a = same_kept m (λ c. not (comes_after c s)) (λ c. not (newer c s)) (λ q i. go q (is_global q) refl i)
   where
     none_some : {X : Type 0} (o : Option X) → o ≡ None → IsSome o → (true ≡ false)
@@ -64,7 +64,7 @@ same_tests m s a = same_kept m (λ c. not (comes_after c s)) (λ c. not (newer c
     go q true e i = absurd (true≢false (none_some (get m q) (a q e) i))
     go q false e i = sym (ap (λ b. not (not b && comes_after q s)) e)
 
-pub all_dropped : (s : SaveName) (m n : Cells) (t u : FinMap cell_cmp (List ℕ)) → AreLocal m → Dropped s m t n u → ((q : Cell) → IsSome (get n q) → comes_after q s ≡ false) → (n ≡ kept_from s m) × (u ≡ kept_from s t)
+pub all_dropped : (s : SaveName) (m n : CellMap) (t u : FinMap cell_cmp (List ℕ)) → AreLocal m → Dropped s m t n u → ((q : Cell) → IsSome (get n q) → comes_after q s ≡ false) → (n ≡ kept_from s m) × (u ≡ kept_from s t)
 all_dropped s m n t u a d h = (
   sym (all_kept n (λ c. not (comes_after c s)) (λ q i. ap not (h q i))) ∙ d.cells ∙ same_tests m s a,
   sym (keep_all s u (λ q i. d.have_cells q (local q (is_global q) refl i) (stays q i (get n q) refl))) ∙ d.strings,
@@ -90,7 +90,7 @@ pub dropped_one : (s : SaveName) (m n o : BTreeMap Cell Content) (t u w : BTreeM
     → Dropped s (from_entries {R = cell_cmp} m.entries) (from_entries {R = cell_cmp} t.entries) (from_entries o.entries) (from_entries w.entries)
 dropped_one s m n o t u w k x d e h f g =
     let next = one_dropped s (from_entries m.entries) (from_entries n.entries) (from_entries t.entries) (from_entries u.entries) k x d (cell_found n.entries k ∙ e) h in
-    subst (λ (p : Cells × FinMap cell_cmp (List ℕ)). Dropped s (from_entries m.entries) (from_entries t.entries) p.0 p.1)
+    subst (λ (p : CellMap × FinMap cell_cmp (List ℕ)). Dropped s (from_entries m.entries) (from_entries t.entries) p.0 p.1)
     (λ i. (sym (cell_removed n.entries o.entries k f.0) i, sym (cell_removed u.entries w.entries k g.0) i)) next
 
 pub dropped_all : (s : SaveName) (m n : BTreeMap Cell Content) (t u : BTreeMap Cell (List ℕ)) (k : Cell) → AreLocal (from_entries {R = cell_cmp} m.entries)

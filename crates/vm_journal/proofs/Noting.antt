@@ -15,7 +15,7 @@ use Rattle.ps_objects.specs.declared.place.Loc.{Loc}
 use Rattle.ps_objects.specs.declared.place.Loc.TheVariants as loc
 use Rattle.ps_objects.specs.declared.place.Value.{Value}
 use Rattle.ps_memory.specs.Order.{cell_cmp, key_cmp}
-use Rattle.ps_memory.specs.Memory.{newer, Content, dictionary, items, characters, Cells, Slot, entry, access, item, whole, Spot, held, byte, rand, paper, spot_of, told, object_found, in_content, is_slot, is_kind, put_entry, put_item, put_content, put_cell}
+use Rattle.ps_memory.specs.Memory.{newer, Content, dictionary, items, characters, CellMap, Slot, entry, access, item, whole, Spot, held, byte, rand, paper, spot_of, value_found, object_found, in_content, is_slot, is_kind, put_entry, put_item, put_content, put_cell}
 use Rattle.ps_memory.specs.Ownership.{same_cell, same_slot, same_spot}
 use Rattle.ps_memory.proofs.Order.{cells_total, keys_total, keys_antisymmetric, cell_is, cell_itself, key_is}
 use Rattle.ps_memory.proofs.Places.{mapped, put_at, kept_at}
@@ -32,7 +32,7 @@ use Rattle.vm_journal.proofs.Places.{loc_is, loc_itself, spots_apart}
 two_slots : (c d : Cell) (s t : Slot) (v w : Value) → (same_cell d c && same_slot s t) ≡ false → same_cell c d ≡ true → (x : Content) → put_content s v (put_content t w x) ≡ put_content t w (put_content s v x)
 two_slots c d s t v w h e x = content_swap s t v w x (sym (ap (λ b. b && same_slot s t) (ap (λ q. same_cell d q) (cell_is c d e) ∙ cell_itself d)) ∙ h)
 
-pub held_swap : (p q : Spot) (v w : Value) (m : Cells) → same_spot p q ≡ false → put_held p v (put_held q w m) ≡ put_held q w (put_held p v m)
+pub held_swap : (p q : Spot) (v w : Value) (m : CellMap) → same_spot p q ≡ false → put_held p v (put_held q w m) ≡ put_held q w (put_held p v m)
 held_swap (held c s) (held d t) v w m h = put_swap c d (put_content s v) (put_content t w) m (two_slots c d s t v w h)
 held_swap (held c s) (byte d j) v w m h = refl
 held_swap (held c s) rand v w m h = refl
@@ -41,7 +41,7 @@ held_swap (byte c i) q v w m h = refl
 held_swap rand q v w m h = refl
 held_swap paper q v w m h = refl
 
-pub held_over : (p : Spot) (v w : Value) (m : Cells) → is_kind p v ≡ true → put_held p v (put_held p w m) ≡ put_held p v m
+pub held_over : (p : Spot) (v w : Value) (m : CellMap) → is_kind p v ≡ true → put_held p v (put_held p w m) ≡ put_held p v m
 held_over (held c t) v w m h = put_over c (put_content t v) (put_content t w) m (λ x. content_over c t v w x h)
 held_over (byte c i) v w m h = refl
 held_over rand v w m h = refl
@@ -53,7 +53,7 @@ not_there : {X Y : Type 0} (x : X) → Some x ≡ None → Y
 not_there x e = cc
 
 -- a place that is noted may be changed
-pub noted_put : (l : Loc) (v : Value) (notes : List Note) (m : Cells) (w : Value) → all_of_kind notes ≡ true → lookup (is_at (loc_cmp l)) notes ≡ Some w → reverted notes (put_held (spot_of l) v m) ≡ reverted notes m
+pub noted_put : (l : Loc) (v : Value) (notes : List Note) (m : CellMap) (w : Value) → all_of_kind notes ≡ true → lookup (is_at (loc_cmp l)) notes ≡ Some w → reverted notes (put_held (spot_of l) v m) ≡ reverted notes m
 noted_put l v [] m w k h = cc
 noted_put l v (e ∷ notes) m w k h = go (is_at (loc_cmp l) e.0) refl (noted_put l v notes (put_held (spot_of e.0) e.1 m) w (second_so _ _ k))
   where
@@ -64,7 +64,7 @@ noted_put l v (e ∷ notes) m w k h = go (is_at (loc_cmp l) e.0) refl (noted_put
     go false i rest = ap (reverted notes) (held_swap (spot_of e.0) (spot_of l) e.1 v m (spots_apart l e.0 i)) ∙ rest (sym (ap (λ b. cond b (Some e.1) (lookup (is_at (loc_cmp l)) notes)) i) ∙ h)
 
 -- a note at a place that has none is put back first or later alike
-pub noted_anew : (l : Loc) (v : Value) (notes : List Note) (m : Cells) → lookup (is_at (loc_cmp l)) notes ≡ None → reverted (insert_entry loc_cmp notes l v) m ≡ reverted notes (put_held (spot_of l) v m)
+pub noted_anew : (l : Loc) (v : Value) (notes : List Note) (m : CellMap) → lookup (is_at (loc_cmp l)) notes ≡ None → reverted (insert_entry loc_cmp notes l v) m ≡ reverted notes (put_held (spot_of l) v m)
 noted_anew l v [] m h = refl
 noted_anew l v (e ∷ notes) m h = go (loc_cmp l e.0) refl (noted_anew l v notes (put_held (spot_of e.0) e.1 m))
   where
@@ -101,7 +101,7 @@ has_note l v (e ∷ notes) = go (loc_cmp l e.0) refl (has_note l v notes)
 
 -- ---- a value put where it is
 
-entry_same : (k : Key) (o : Option Object) (es : FinMap key_cmp Object) → get es k ≡ o → put_entry k (told (object_found o)) es ≡ es
+entry_same : (k : Key) (o : Option Object) (es : FinMap key_cmp Object) → get es k ≡ o → put_entry k (value_found (object_found o)) es ≡ es
 entry_same k None es e = same_map keys_total keys_antisymmetric (remove es k) es (λ q. get-remove keys_total es k q ∙ go q (eq_by_cmp key_cmp q k) refl)
   where
     go : (q : Key) (b : Bool) → eq_by_cmp key_cmp q k ≡ b → cond b None (get es q) ≡ get es q
@@ -118,11 +118,11 @@ set_same [] i x e = refl
 set_same (y ∷ ys) zero x e = cc
 set_same (y ∷ ys) (suc i) x e = ap (λ zs. y ∷ zs) (set_same ys i x e)
 
-item_same : (i : ℕ) (o : Option Object) (xs : List Object) → slice_get xs i ≡ o → put_item i (told (object_found o)) xs ≡ xs
+item_same : (i : ℕ) (o : Option Object) (xs : List Object) → slice_get xs i ≡ o → put_item i (value_found (object_found o)) xs ≡ xs
 item_same i None xs e = refl
 item_same i (Some x) xs e = set_same xs i x e
 
-pub content_same : (t : Slot) (x : Content) → put_content t (told (in_content (Some x) t)) x ≡ x
+pub content_same : (t : Slot) (x : Content) → put_content t (value_found (in_content (Some x) t)) x ≡ x
 content_same (entry k) (dictionary n a es) = ap (dictionary n a) (entry_same k (get es k) es refl)
 content_same access (dictionary n a es) = refl
 content_same (item i) (dictionary n a es) = refl
@@ -136,7 +136,7 @@ content_same access (characters n) = refl
 content_same (item i) (characters n) = refl
 content_same whole (characters n) = refl
 
-pub cell_same : (c : Cell) (f : Content → Content) (m : Cells) (x : Content) → get m c ≡ Some x → f x ≡ x → put_cell c f m ≡ m
+pub cell_same : (c : Cell) (f : Content → Content) (m : CellMap) (x : Content) → get m c ≡ Some x → f x ≡ x → put_cell c f m ≡ m
 cell_same c f m x e h = same_maps (put_cell c f m) m (λ q. put_at c q f m ∙ go q (same_cell q c) refl)
   where
     go : (q : Cell) (b : Bool) → same_cell q c ≡ b → cond b (mapped f (get m q)) (get m q) ≡ get m q
@@ -146,20 +146,20 @@ cell_same c f m x e h = same_maps (put_cell c f m) m (λ q. put_at c q f m ∙ g
 -- ---- a save
 
 -- a cell that is not newer than the save is there as it was
-old_cell : (s : SaveName) (c : Cell) (m : Cells) → newer c s ≡ false → get (keep s m) c ≡ get m c
+old_cell : (s : SaveName) (c : Cell) (m : CellMap) → newer c s ≡ false → get (keep s m) c ≡ get m c
 old_cell s c m h = kept_at s c m ∙ ap (λ b. cond (not b) (get m c) None) h
 
-pub newer_put : (s : Saved) (c : Cell) (t : Slot) (v : Value) (m : Cells) → newer c s.0 ≡ true → as_saved s (put_held (held c t) v m) ≡ as_saved s m
+pub newer_put : (s : Saved) (c : Cell) (t : Slot) (v : Value) (m : CellMap) → newer c s.0 ≡ true → as_saved s (put_held (held c t) v m) ≡ as_saved s m
 newer_put s c t v m h = ap (reverted s.1) (keep_change s.0 c m (put_cell c (put_content t v) m) h (λ d e. put_at c d (put_content t v) m ∙ ap (λ b. cond b (mapped (put_content t v) (get m d)) (get m d)) e))
 
 -- a note of what a place holds changes nothing
-pub note_same : (s : SaveName) (notes : List Note) (l : Loc) (c : Cell) (t : Slot) (x : Content) (m : Cells) → spot_of l ≡ held c t → newer c s ≡ false → get m c ≡ Some x
-    → lookup (is_at (loc_cmp l)) notes ≡ None → as_saved (s, insert_entry loc_cmp notes l (told (in_content (Some x) t))) m ≡ as_saved (s, notes) m
-note_same s notes l c t x m p h e n = noted_anew l (told (in_content (Some x) t)) notes (keep s m) n
-    ∙ ap (reverted notes) (ap (λ q. put_held q (told (in_content (Some x) t)) (keep s m)) p ∙ cell_same c (put_content t (told (in_content (Some x) t))) (keep s m) x (old_cell s c m h ∙ e) (content_same t x))
+pub note_same : (s : SaveName) (notes : List Note) (l : Loc) (c : Cell) (t : Slot) (x : Content) (m : CellMap) → spot_of l ≡ held c t → newer c s ≡ false → get m c ≡ Some x
+    → lookup (is_at (loc_cmp l)) notes ≡ None → as_saved (s, insert_entry loc_cmp notes l (value_found (in_content (Some x) t))) m ≡ as_saved (s, notes) m
+note_same s notes l c t x m p h e n = noted_anew l (value_found (in_content (Some x) t)) notes (keep s m) n
+    ∙ ap (reverted notes) (ap (λ q. put_held q (value_found (in_content (Some x) t)) (keep s m)) p ∙ cell_same c (put_content t (value_found (in_content (Some x) t))) (keep s m) x (old_cell s c m h ∙ e) (content_same t x))
 
 -- and then the place may be changed
-pub put_noted : (s : SaveName) (notes : List Note) (l : Loc) (c : Cell) (t : Slot) (w v : Value) (m : Cells) → spot_of l ≡ held c t → newer c s ≡ false → all_of_kind notes ≡ true
+pub put_noted : (s : SaveName) (notes : List Note) (l : Loc) (c : Cell) (t : Slot) (w v : Value) (m : CellMap) → spot_of l ≡ held c t → newer c s ≡ false → all_of_kind notes ≡ true
     → lookup (is_at (loc_cmp l)) notes ≡ Some w → as_saved (s, notes) (put_held (spot_of l) v m) ≡ as_saved (s, notes) m
 put_noted s notes l c t w v m p h k e = ap (reverted notes) (ap (λ q. keep s (put_held q v m)) p ∙ keep_put s c (put_content t v) m ∙ ap (λ q. put_held q v (keep s m)) (sym p))
     ∙ noted_put l v notes (keep s m) w k e
@@ -174,7 +174,7 @@ none_is : {X : Type 0} (o : Option X) → is_some o ≡ false → o ≡ None
 none_is None e = refl
 none_is (Some x) e = cc
 
-is_told : (l : Loc) (c : Cell) (x : Content) → spot_of l ≡ held c (slot_in l) → is_slot (Some x) (slot_in l) ≡ true → value_in x l ≡ told (in_content (Some x) (slot_in l))
+is_told : (l : Loc) (c : Cell) (x : Content) → spot_of l ≡ held c (slot_in l) → is_slot (Some x) (slot_in l) ≡ true → value_in x l ≡ value_found (in_content (Some x) (slot_in l))
 is_told (loc.Entry d k) c x p h = refl
 is_told (loc.Access d) c x p h = refl
 is_told (loc.Item a i) c x p h = refl
@@ -188,15 +188,15 @@ is_told loc.Paper c x p h = cc
 below : (i n : ℕ) → nat_lt i n ≡ true → i < n
 below i n h = grind arith
 
-item_kind : (c : Cell) (j : ℕ) (xs : List Object) (i : ℕ) → i < length xs → is_kind (held c (item j)) (told (object_found (slice_get xs i))) ≡ true
+item_kind : (c : Cell) (j : ℕ) (xs : List Object) (i : ℕ) → i < length xs → is_kind (held c (item j)) (value_found (object_found (slice_get xs i))) ≡ true
 item_kind c j [] i h = absurd (omega arith)
 item_kind c j (x ∷ xs) zero h = refl
 item_kind c j (x ∷ xs) (suc i) h = item_kind c j xs i (omega (arith, h))
 
-found_kind : (c : Cell) (t : Slot) (x : Content) → is_slot (Some x) t ≡ true → is_kind (held c t) (told (in_content (Some x) t)) ≡ true
+found_kind : (c : Cell) (t : Slot) (x : Content) → is_slot (Some x) t ≡ true → is_kind (held c t) (value_found (in_content (Some x) t)) ≡ true
 found_kind c (entry k) (dictionary n a es) h = entry_kind (get es k)
   where
-    entry_kind : (o : Option Object) → is_kind (held c (entry k)) (told (object_found o)) ≡ true
+    entry_kind : (o : Option Object) → is_kind (held c (entry k)) (value_found (object_found o)) ≡ true
     entry_kind None = refl
     entry_kind (Some x) = refl
 found_kind c access (dictionary n a es) h = refl
@@ -208,10 +208,10 @@ found_kind c _ _ h = cc
 pub stands_there : (es : List (Cell × Content)) (c : Cell) (t : Slot) → is_slot (get (from_entries {R = cell_cmp} es) c) t ≡ true → lookup (is_at (cell_cmp c)) es ≡ None → true ≡ false
 stands_there es c t h e = sym h ∙ ap (λ o. is_slot o t) (get_entries cells_total es c ∙ e)
 
-pub newer_needs_none : (s : SaveName) (notes : List Note) (l : Loc) (c : Cell) (m : Cells) → spot_of l ≡ held c (slot_in l) → newer c s ≡ true → (v : Value) → as_saved (s, notes) (put_held (spot_of l) v m) ≡ as_saved (s, notes) m
+pub newer_needs_none : (s : SaveName) (notes : List Note) (l : Loc) (c : Cell) (m : CellMap) → spot_of l ≡ held c (slot_in l) → newer c s ≡ true → (v : Value) → as_saved (s, notes) (put_held (spot_of l) v m) ≡ as_saved (s, notes) m
 newer_needs_none s notes l c m p h v = ap (λ q. as_saved (s, notes) (put_held q v m)) p ∙ newer_put (s, notes) c (slot_in l) v m h
 
-pub noted_already : (s : SaveName) (notes : List Note) (l : Loc) (c : Cell) (m : Cells) → spot_of l ≡ held c (slot_in l) → newer c s ≡ false → all_of_kind notes ≡ true
+pub noted_already : (s : SaveName) (notes : List Note) (l : Loc) (c : Cell) (m : CellMap) → spot_of l ≡ held c (slot_in l) → newer c s ≡ false → all_of_kind notes ≡ true
     → is_some (lookup (is_at (loc_cmp l)) notes) ≡ true → (v : Value) → as_saved (s, notes) (put_held (spot_of l) v m) ≡ as_saved (s, notes) m
 noted_already s notes l c m p h k e v = let w = some_is (lookup (is_at (loc_cmp l)) notes) e in put_noted s notes l c (slot_in l) w.0 v m p h k w.1
 

@@ -7,7 +7,7 @@ use Rattle.ps_objects.specs.declared.cell.Cell.{Cell}
 use Rattle.ps_objects.specs.declared.cell.SaveName.{SaveName}
 use Rattle.ps_objects.specs.declared.place.Loc.{Loc}
 use Rattle.ps_objects.specs.declared.place.Value.{Value}
-use Rattle.ps_memory.specs.Memory.{newer, Cells, Spot, held, spot_of, put_content, put_cell, is_kind}
+use Rattle.ps_memory.specs.Memory.{newer, CellMap, Spot, held, spot_of, put_content, put_cell, is_kind}
 use Rattle.ps_memory.specs.Frame.{later}
 
 -- the order of places
@@ -23,22 +23,22 @@ abbrev pub Saved : Type 0
 Saved = SaveName × List Note
 
 -- the cells with a value at a place of theirs
-abbrev pub put_held : Spot → Value → Cells → Cells
+abbrev pub put_held : Spot → Value → CellMap → CellMap
 put_held (held c t) v m = put_cell c (put_content t v) m
 put_held _ v m = m
 
 -- the cells with what was noted put back
-abbrev pub reverted : List Note → Cells → Cells
+abbrev pub reverted : List Note → CellMap → CellMap
 reverted [] m = m
 reverted (e ∷ notes) m = reverted notes (put_held (spot_of e.0) e.1 m)
 
 -- the cells as they were at a save: those that are newer go, and what was noted comes back
-abbrev pub as_saved : Saved → Cells → Cells
+abbrev pub as_saved : Saved → CellMap → CellMap
 as_saved s m = reverted s.1 (retain_keys m (λ c. not (newer c s.0)))
 
 -- What a journal means: the copies of the local part that the open saves keep, the newest first. Each is the next newer one, or
 -- the cells as they are now, with its own notes put back.
-abbrev pub copies : List Saved → Cells → List (SaveName × Cells)
+abbrev pub copies : List Saved → CellMap → List (SaveName × CellMap)
 copies [] m = []
 copies (s ∷ saves) m = (s.0, as_saved s m) ∷ copies saves (as_saved s m)
 
@@ -47,6 +47,7 @@ abbrev pub all_of_kind : List Note → Bool
 all_of_kind [] = true
 all_of_kind (e ∷ notes) = is_kind (spot_of e.0) e.1 && all_of_kind notes
 
+-- the name is later than those of all saves
 abbrev pub is_latest : SaveName → List Saved → Bool
 is_latest s [] = true
 is_latest s (r ∷ saves) = later s r.0 && is_latest s saves

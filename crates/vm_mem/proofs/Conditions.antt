@@ -10,7 +10,7 @@ use Rattle.ps_objects.specs.declared.place.Loc.{Loc}
 use Rattle.ps_objects.specs.declared.place.Value.{Value}
 use Rattle.ps_objects.specs.declared.place.Value.TheVariants as value
 use Rattle.ps_objects.specs.declared.place.Shape.{Shape}
-use Rattle.ps_memory.specs.Memory.{is_global, newer, Cells, Memory, Page, here, out, taken_out, Spot, held, byte, rand, paper, spot_of, shape_at, put_content, put_cell, put_page, do_store, content_of, copy_named, put_back, perform, Action, store, fresh, save, restore, tell}
+use Rattle.ps_memory.specs.Memory.{is_global, newer, CellMap, Memory, Page, here, out, page_out, Spot, held, byte, rand, paper, spot_of, shape_at, put_content, put_cell, put_page, do_store, content_of, copy_named, do_restore, perform, Action, store, fresh, save, restore, tell}
 use Rattle.ps_memory.proofs.Places.{part_page}
 use Rattle.ps_memory.specs.Frame.{later, IsUnused, IsNewest, Allowed}
 use Rattle.ps_memory.specs.Writes.{apply, Applicable}
@@ -88,7 +88,7 @@ page_stored (byte c i) v M h = h
 page_stored rand v M h = h
 page_stored paper v M h = page_put v M.page h
 
-page_back : (s : SaveName) (o : Option Cells) (M : Memory) → is_here M.page ≡ true → is_here (put_back s o M).page ≡ true
+page_back : (s : SaveName) (o : Option CellMap) (M : Memory) → is_here M.page ≡ true → is_here (do_restore s o M).page ≡ true
 page_back s None M h = h
 page_back s (Some x) M h = h
 
@@ -140,4 +140,4 @@ may_lay_out M p e = e
 -- paper of the size of the paper that was lifted
 pub may_lay : (old new : Log) (p q : Sheet) → old.view.page ≡ here p → new ≡ lifted_in old → q.width ≡ p.width → q.height ≡ p.height → MayLay new.view q
 unfolding MayLay
-may_lay old new p q is lifted w h = ap (λ (log : Log). log.view.page) lifted ∙ ap taken_out is ∙ sym (λ i. out (w i) (h i))
+may_lay old new p q is lifted w h = ap (λ (log : Log). log.view.page) lifted ∙ ap page_out is ∙ sym (λ i. out (w i) (h i))

@@ -23,6 +23,7 @@ glance_of_literal (kind.Real r) Unlimited = Real r
 glance_of_literal (kind.Boolean b) Unlimited = Boolean b
 glance_of_literal _ _ = Other
 
+-- an object, by its executable attribute
 abbrev pub glance_by : Bool → Kind → Access → Glance
 glance_by true k a = glance_of_executable k a
 glance_by false k a = glance_of_literal k a

@@ -13,7 +13,7 @@ use Rattle.ps_objects.specs.declared.object.Object.{Object}
 use Rattle.ps_objects.specs.declared.object.Kind.TheVariants as kind
 use Rattle.ps_names.specs.Operators.{operator_names}
 use Rattle.ps_memory.specs.Order.{cell_cmp, key_cmp}
-use Rattle.ps_memory.specs.Memory.{Content, Cells, dictionary}
+use Rattle.ps_memory.specs.Memory.{Content, CellMap, dictionary}
 use Rattle.ps_memory.proofs.Order.{cells_total, keys_total, cells_antisymmetric, keys_antisymmetric}
 use Rattle.ps_meaning.specs.Start.{literal, operator, numbered, system_values, system_entries, error_entries, error_record_entries}
 use Rattle.vm_content.proofs.Keyed.{one_inserted}
@@ -100,5 +100,5 @@ errors_opened = refl
 
 -- ---- cells
 
-pub hold_next : (k m n : Cells) (x : Cell) (v w : Content) → k ≡ insert m x v → v ≡ w → m ≡ n → k ≡ insert n x w
+pub hold_next : (k m n : CellMap) (x : Cell) (v w : Content) → k ≡ insert m x v → v ≡ w → m ≡ n → k ≡ insert n x w
 hold_next k m n x v w e f g = e ∙ ap (insert m x) f ∙ ap (λ a. insert a x w) g

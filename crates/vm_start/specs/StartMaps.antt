@@ -18,8 +18,10 @@ operators_between i n = numbered i (drop i (take n operator_names))
 
 -- ---- the maps, under names that nothing opens: their entries are many
 
+-- the system dictionary's entries
 unfoldable pub system_map : FinMap key_cmp Object
 system_map = from_entries system_entries
 
+-- the entries of `errordict`
 unfoldable pub error_map : FinMap key_cmp Object
 error_map = from_entries error_entries
