@@ -7,6 +7,7 @@ use Rattle.commit_desk.specs.declared.desk.Desk.{Desk}
 use Rattle.commit_desk.specs.State.{DeskState, after}
 use Rattle.commit_desk.specs.Slots.{piece_in}
 
+-- what callers see of a desk: its numbers and its history
 abbrev pub state_of : {C : Type 0} → Desk C → DeskState
 state_of desk = record { pages = desk.pages; ahead = desk.ahead; stopped = desk.stopped; history = desk.history.items }
 

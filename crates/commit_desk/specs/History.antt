@@ -16,6 +16,7 @@ is_same _ _ = false
 abbrev pub has : List Event → Event → Bool
 has history event = list_any (is_same event) history
 
+-- whether an event claims a page
 abbrev pub is_claim : Event → Bool
 is_claim (Claimed page) = true
 is_claim _ = false
@@ -24,6 +25,7 @@ is_claim _ = false
 abbrev pub claimed_count : List Event → ℕ
 claimed_count history = count_by is_claim history
 
+-- the committed count after an event
 abbrev pub committed_by : ℕ → Event → ℕ
 committed_by count (Committed risen) = risen
 committed_by count _ = count
@@ -41,6 +43,7 @@ may_follow ahead before (Finished page) = has before (Claimed page) && not (has 
 may_follow ahead before (Taken page) = has before (Finished page) && not (has before (Taken page))
 may_follow ahead before (Committed count) = nat_lt (committed_count before) count && nat_le count (claimed_count before)
 
+-- each of the later events may follow on those before it
 abbrev pub may_all_follow : ℕ → List Event → List Event → Bool
 may_all_follow ahead before [] = true
 may_all_follow ahead before (event ∷ later) = may_follow ahead before event && may_all_follow ahead (before ++ event ∷ []) later

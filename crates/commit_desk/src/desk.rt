@@ -1,8 +1,7 @@
 //! The desk.
-ghost use Rattle.std.specs.Prelude.{◌≡◌, ◌+◌, ◌*◌, ◌≤◌, ℕ, true, not, ◌&&◌, nat_lt, nat_le, is_some, sum_by, slice_index_or, vec_len, vec_capacity, IsTrue, IsFalse, IfOk, IfErr, OnOk, OnSome, IfNone, None};
-ghost use Rattle.commit_desk.specs.History.{has, claimed_count, committed_count, is_legal};
-ghost use Rattle.commit_desk.specs.Slots.{is_finished, is_emptied, piece_in, event_count};
-ghost use Rattle.commit_desk.specs.declared.event.Event.TheVariants.{Claimed, Finished, Taken};
+ghost use Rattle.std.specs.Prelude.{◌≡◌, ◌+◌, ◌*◌, ◌≤◌, ℕ, true, sum_by, slice_index_or, vec_len, vec_capacity, IsTrue, IsFalse, IfOk, IfErr, OnOk, OnSome, IfNone, None};
+ghost use Rattle.commit_desk.specs.History.{claimed_count, committed_count, is_legal};
+ghost use Rattle.commit_desk.specs.Slots.{ClaimedUpTo, HoldPieces, TellFinished, TellTaken, event_count};
 ghost use Rattle.commit_desk.specs.declared.slot.Slot.TheVariants.{Vacant};
 
 use crate::event::{Claim, Event};
@@ -29,13 +28,13 @@ pub struct Desk<C> {
     pub ghost claims: { claimed ≡ claimed_count history.items },
     pub ghost commits: { committed ≡ committed_count history.items },
     /// The pieces on the desk are those of the pages that were finished and not taken.
-    pub ghost pieces: { (page : ℕ) → is_some (piece_in (slice_index_or slots.items page Vacant)) ≡ (has history.items (Finished page) && not (has history.items (Taken page))) },
+    pub ghost pieces: { HoldPieces slots.items history.items },
     pub ghost within: { claimed ≤ pages },
 
     ghost behind: { committed ≤ claimed },
-    ghost claimed_pages: { (page : ℕ) → has history.items (Claimed page) ≡ (nat_lt 0 page && nat_le page claimed) },
-    ghost finished_pages: { (page : ℕ) → has history.items (Finished page) ≡ is_finished (slice_index_or slots.items page Vacant) },
-    ghost taken_pages: { (page : ℕ) → has history.items (Taken page) ≡ is_emptied (slice_index_or slots.items page Vacant) },
+    ghost claimed_pages: { ClaimedUpTo claimed history.items },
+    ghost finished_pages: { TellFinished slots.items history.items },
+    ghost taken_pages: { TellTaken slots.items history.items },
     ghost slot_count: { vec_len slots ≡ pages + 1 },
     ghost event_counts: { vec_len history ≤ claimed + committed + sum_by event_count slots.items },
     ghost room: { 4 * pages + 2 ≤ vec_capacity history },
@@ -98,8 +97,10 @@ impl<C: Drop> Desk<C> {
 
     /// Lays the piece of a claimed page down. The piece comes back where the page isn't claimed or is finished already.
     pub fn finish(&mut self, page: u32, piece: C) -> Result<(), C>
-        ensures ok { OnOk result (IsTrue (accepts (state_of self.old) page) × LaysDown self.old self.new page piece) }
-        ensures err { IfErr result (λ back. (back ≡ piece) × IsFalse (accepts (state_of self.old) page) × Unchanged self.old self.new) }
+        ensures ok { OnOk result
+            (IsTrue (accepts (state_of self.old) page) × LaysDown self.old self.new page piece) }
+        ensures err { IfErr result (λ back. (back ≡ piece)
+            × IsFalse (accepts (state_of self.old) page) × Unchanged self.old self.new) }
     {
         if page == 0 || page > self.claimed {
             return Err(piece);
@@ -150,7 +151,8 @@ impl<C: Drop> Desk<C> {
 // So many vacant slots.
 fn vacant_slots<C>(alloc: Global, count: usize) -> Result<Vec<Slot<C>>, NoMemory>
     ensures len { IfOk result (λ slots. vec_len slots ≡ count) }
-    ensures vacant { IfOk result (λ slots. (page : ℕ) → slice_index_or slots.items page Vacant ≡ Vacant) }
+    ensures vacant { IfOk result (λ slots.
+        (page : ℕ) → slice_index_or slots.items page Vacant ≡ Vacant) }
     ensures events { IfOk result (λ slots. sum_by event_count slots.items ≡ 0) }
 {
     let mut slots = Vec::with_capacity(alloc, count)?;

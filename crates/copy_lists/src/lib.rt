@@ -5,6 +5,7 @@ mod boxed;
 mod duplicate;
 mod memory;
 mod sequence;
+mod sharing;
 mod stack;
 #[cfg(test)]
 mod tests;
@@ -14,5 +15,6 @@ pub use boxed::Boxed;
 pub use duplicate::Duplicate;
 pub use memory::NoMemory;
 pub use sequence::Sequence;
+pub use sharing::may_be_shared;
 pub use stack::Stack;
 pub use text::Text;

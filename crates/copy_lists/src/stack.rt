@@ -1,5 +1,6 @@
 //! Stacks.
 ghost use Rattle.std.specs.Prelude.{◌≡◌, ◌<◌, ◌≤◌, ◌==◌, List, [], ◌∷◌, length, drop, slice_get, option_copied, Some, MatchOption, IfOk, OnOk, OnErr, reverse};
+ghost use Rattle.copy_lists.specs.Stacks.{Pops};
 ghost use Rattle.copy_lists.specs.Turned.{end_turned};
 
 use crate::{Duplicate, NoMemory};
@@ -75,7 +76,7 @@ impl<T: Drop> Stack<T> {
     }
 
     pub fn pop(&mut self) -> Option<T>
-        ensures { MatchOption result ((self.old ≡ []) × (self.new ≡ [])) (λ x. self.old ≡ x ∷ self.new) }
+        ensures { Pops self.old self.new result }
     {
         self.items.pop()
     }

@@ -21,6 +21,7 @@ fn copies_are_equal(rt: HostRuntime) -> Result<(), Fail> {
     stack.push(7)?;
     stack.push(8)?;
     assert!(rt; stack.copy()? == stack);
+    may_be_shared(&stack);
     let other: Stack<u32> = Stack::new(stack.alloc());
     assert!(rt; other != stack);
     assert!(rt; Text::from_text(rt.alloc(), "add")?.as_slice() == b"add".as_slice());

@@ -15,7 +15,7 @@ use Rattle.dsc_split.specs.declared.cutter.SplitError.{SplitError}
 use Rattle.dsc_split.specs.declared.cutter.SplitError.TheVariants.{TooManyPages, NoMemory}
 use Rattle.dsc_split.specs.Marks.{marks_from}
 use Rattle.dsc_split.specs.Sections.{is_control_d, start_of, end_of, has_header, section, prolog_end, sections_at, part_end, pages_and_trailer, sections_of, is_page, page_count}
-use Rattle.dsc_split.specs.Cuts.{sections_left, left_of, Leads, IsOrdered, IsTooMany, Refuses}
+use Rattle.dsc_split.specs.Cuts.{marks_begin, sections_left, left_of, Leads, IsOrdered, IsTooMany, Refuses}
 use Rattle.dsc_split.proofs.MarkLemmas.{marks_end}
 use Rattle.dsc_split.proofs.OrderLemmas.{marks_from_ordered, marks_from_few, ordered_before}
 
@@ -111,7 +111,7 @@ begins_at job cutter at short e i n k f =
 
 pub begins : (job text : List ℕ) (cutter : Cutter) (start trailing depth at : ℕ) → length job ≤ 268435456 → start ≡ start_of job
     → trailing ≡ suffix_len is_control_d (take (length job - start) (drop start job)) → text ≡ take (length job - trailing) job
-    → depth ≡ 0 → at ≡ (if starts_with nat_eq (drop start text) (codes "%!PS-Adobe-") then start else length text)
+    → depth ≡ 0 → at ≡ marks_begin text start
     → cutter.sections.items ≡ [] → cutter.number ≡ 1 → cutter.kind ≡ kind.Prolog → cutter.from ≡ start
     → Begins job cutter (length job - trailing) (marks_from depth at text)
 begins job text cutter start trailing depth at short s t x d e i n k f =
@@ -120,8 +120,8 @@ begins job text cutter start trailing depth at short s t x d e i n k f =
     in
     let text_is : text ≡ take (end_of job) job = x ∙ ap (λ y. take y job) end_is in
     let at_is : at ≡ (if has_header job then start_of job else length (take (end_of job) job)) =
-    e ∙ ap (λ y. if starts_with nat_eq (drop start y) (codes "%!PS-Adobe-") then start else length y) text_is
-    ∙ ap (λ y. if starts_with nat_eq (drop y (take (end_of job) job)) (codes "%!PS-Adobe-") then y else length (take (end_of job) job)) s
+    e ∙ ap (λ y. marks_begin y start) text_is
+    ∙ ap (λ y. marks_begin (take (end_of job) job) y) s
     in
     subst (λ y. Begins job cutter y (marks_from depth at text)) (sym end_is)
     (subst (λ y. Begins job cutter (end_of job) (marks_from y at text)) (sym d)

@@ -1,4 +1,4 @@
--- The comments that say where the sections of a job are, and the words behind them.
+-- The comments of the structuring conventions that say where the sections of a job are, and the words behind them.
 use Rattle.std.specs.Prelude.{ℕ, ◌+◌, ◌-◌, ◌*◌, Bool, true, false, not, ◌&&◌, ◌||◌, ◌==◌, List, [], ◌∷◌, length, drop, slice_index, filter, fold, if◌then◌else◌, Option, Some, None, nat_eq, nat_lt, codes}
 use Rattle.std.specs.Char.{is_ascii_alphabetic, is_ascii_digit}
 use Rattle.std.specs.List.{starts_with, list_all, slice_split}
@@ -10,6 +10,7 @@ use Rattle.dsc_split.specs.declared.comment.Comment.TheVariants.{EndProlog, Page
 abbrev pub is_blank : ℕ → Bool
 is_blank byte = byte == 32 || byte == 9
 
+-- a comment name that ends in a letter, and not in a colon
 abbrev pub ends_in_letter : List ℕ → Bool
 ends_in_letter name = is_ascii_alphabetic (slice_index name (length name - 1))
 

@@ -1,5 +1,5 @@
 -- How a job is cut while its marks are read.
-use Rattle.std.specs.Prelude.{◌≡◌, ℕ, ◌+◌, ◌<◌, ◌≤◌, Bool, true, false, List, [], ◌∷◌, ◌++◌, length}
+use Rattle.std.specs.Prelude.{◌≡◌, ℕ, ◌+◌, ◌<◌, ◌≤◌, Bool, true, false, List, [], ◌∷◌, ◌++◌, length, drop, nat_le, if◌then◌else◌}
 use Rattle.ps_objects.specs.declared.section.SectionKind.{SectionKind}
 use Rattle.ps_objects.specs.declared.section.SectionKind.TheVariants as kind
 use Rattle.dsc_split.specs.declared.section.Section.{Section}
@@ -9,7 +9,7 @@ use Rattle.dsc_split.specs.declared.cutter.Cutter.{Cutter}
 use Rattle.dsc_split.specs.declared.cutter.SplitError.{SplitError}
 use Rattle.dsc_split.specs.declared.cutter.SplitError.TheVariants.{TooManyPages, NoMemory}
 use Rattle.dsc_split.specs.declared.cutter.TheConstants.{MAX_PAGES, MAX_SECTIONS}
-use Rattle.dsc_split.specs.Sections.{section, sections_of, page_count, prolog_end, part_end, pages_and_trailer}
+use Rattle.dsc_split.specs.Sections.{begins_with_header, section, sections_of, page_count, prolog_end, part_end, pages_and_trailer}
 
 -- when each refusal comes: too many pages exactly where there are more than 100,000, with their number
 abbrev pub Refuses : List ℕ → SplitError → Type 0
@@ -59,6 +59,16 @@ left_of cutter end marks = sections_left cutter.number cutter.kind cutter.from e
 abbrev pub Continues : Cutter → SectionKind → ℕ → ℕ → List Mark → List Mark → Type 0
 Continues cutter kind at end marks later =
     left_of cutter end marks ≡ section cutter.number cutter.kind cutter.from at ∷ sections_left (cutter.number + 1) kind at end later
+
+-- the closed sections with the open one closed at a place; more than a job may have aren't kept
+abbrev pub closed_with : Cutter → ℕ → List Section
+closed_with cutter at =
+    if nat_le cutter.number MAX_SECTIONS then cutter.sections.items ++ section cutter.number cutter.kind cutter.from at ∷ []
+    else cutter.sections.items
+
+-- where marks are sought in a text: from a place on, or nowhere, where no header stands there
+abbrev pub marks_begin : List ℕ → ℕ → ℕ
+marks_begin text start = if begins_with_header (drop start text) then start else length text
 
 -- all sections come of those that are closed and those that are left; more than a job may have aren't kept
 pub record Leads (cutter : Cutter) (end : ℕ) (marks : List Mark) (whole : List Section) : Type 0 where

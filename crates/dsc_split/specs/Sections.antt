@@ -1,4 +1,5 @@
--- The sections of a job.
+-- The sections of a job: prolog, setup, pages and trailer, as the structuring conventions cut a document. Which section a job has
+-- without their comments is the project's own rule.
 use Rattle.std.specs.Prelude.{ℕ, ◌+◌, ◌-◌, Bool, true, false, ◌==◌, List, [], ◌∷◌, ◌++◌, length, take, drop, if◌then◌else◌, count_by, nat_eq, codes}
 use Rattle.std.specs.List.{prefix_len, suffix_len, starts_with}
 use Rattle.std.specs.Fmt.{decimal}
@@ -18,6 +19,7 @@ is_control_d byte = byte == 4
 abbrev pub start_of : List ℕ → ℕ
 start_of job = prefix_len is_control_d job
 
+-- the end of a job without the Control-D bytes there
 abbrev pub end_of : List ℕ → ℕ
 end_of job = length job - suffix_len is_control_d (drop (start_of job) job)
 
@@ -60,11 +62,16 @@ sections_at start end marks =
     ∷ section 2 kind.Setup (prolog_end end marks) (part_end end marks)
     ∷ pages_and_trailer 3 end marks
 
+-- how a text with document structure begins
+abbrev pub begins_with_header : List ℕ → Bool
+begins_with_header text = starts_with nat_eq text (codes "%!PS-Adobe-")
+
 -- A job that doesn't begin with `%!PS-Adobe-` is one prolog; its setup and trailer are empty and stand at its
 -- end, and it has no pages.
 abbrev pub has_header : List ℕ → Bool
-has_header job = starts_with nat_eq (body_of job) (codes "%!PS-Adobe-")
+has_header job = begins_with_header (body_of job)
 
+-- the sections of a job, cut at the marks of its lines; without a header all of it is the prolog
 unfoldable pub sections_of : List ℕ → List Section
 sections_of job =
     let start = start_of job in
@@ -83,6 +90,7 @@ kind_word kind.Setup = codes "setup"
 kind_word kind.Page = codes "page"
 kind_word kind.Trailer = codes "trailer"
 
+-- a section as it is written: its number, its kind, where it begins and its length
 abbrev pub section_text : Section → List ℕ
 section_text s =
     decimal s.number ++ codes " " ++ kind_word s.kind ++ codes " " ++ decimal s.from ++ codes " " ++ decimal s.len
@@ -94,5 +102,6 @@ is_page s = is_page_kind s.kind where
   is_page_kind kind.Page = true
   is_page_kind _ = false
 
+-- how many of the sections are pages
 abbrev pub page_count : List Section → ℕ
 page_count sections = count_by is_page sections

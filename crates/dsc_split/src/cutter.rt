@@ -4,8 +4,8 @@ ghost use Rattle.std.specs.List.{suffix_len, starts_with};
 ghost use Rattle.ps_objects.specs.declared.section.SectionKind.TheVariants as kind;
 ghost use Rattle.dsc_split.specs.declared.mark.Mark.{Mark};
 ghost use Rattle.dsc_split.specs.declared.section.Section.{Section};
-ghost use Rattle.dsc_split.specs.Sections.{is_control_d, start_of, prolog_end, section, sections_of, page_count};
-ghost use Rattle.dsc_split.specs.Cuts.{place_of, after_prolog, Continues, Leads, IsTooMany, Refuses};
+ghost use Rattle.dsc_split.specs.Sections.{begins_with_header, is_control_d, start_of, prolog_end, section, sections_of, page_count};
+ghost use Rattle.dsc_split.specs.Cuts.{closed_with, marks_begin, place_of, after_prolog, Continues, Leads, IsTooMany, Refuses};
 ghost use Rattle.dsc_split.specs.Law.{StandsWithin};
 
 use crate::mark::{Mark, Marks};
@@ -19,7 +19,7 @@ pub const MAX_PAGES: u32 = 100_000;
 /// The prolog, the setup, the trailer and as many pages as there may be.
 const MAX_SECTIONS: u32 = 100_003;
 
-const CONTROL_D: u8 = 4;
+pub const CONTROL_D: u8 = 4;
 
 /// Why a job isn't split.
 #[derive(Clone, Copy, Debug, PartialEq, Eq)]
@@ -80,7 +80,7 @@ impl Cutter {
     /// Closes the open section at a place. Where there are too many sections already it isn't kept.
     fn close(&mut self, at: usize) -> Result<(), NoMemory>
         requires { self.old.from ≤ at }
-        ensures sections { OnOk result (self.new.sections.items ≡ (if nat_le self.old.number MAX_SECTIONS then self.old.sections.items ++ section self.old.number self.old.kind self.old.from at ∷ [] else self.old.sections.items)) }
+        ensures sections { OnOk result (self.new.sections.items ≡ closed_with self.old at) }
         ensures number { self.new.number ≡ self.old.number }
         ensures kind { self.new.kind ≡ self.old.kind }
         ensures from { self.new.from ≡ self.old.from }
@@ -104,7 +104,9 @@ impl Cutter {
         ensures number { OnOk result (self.new.number ≡ self.old.number + 1) }
         ensures kind { OnOk result (self.new.kind ≡ kind) }
         ensures from { OnOk result (self.new.from ≡ at) }
-        ensures leads { OnOk result ((end : ℕ) (marks later : List Mark) (whole : List Section) → Continues self.old kind at end marks later → Leads self.old end marks whole → Leads self.new end later whole) }
+        ensures leads { OnOk result ((end : ℕ) (marks later : List Mark) (whole : List Section) →
+            Continues self.old kind at end marks later → Leads self.old end marks whole →
+            Leads self.new end later whole) }
     {
         self.close(at)?;
         self.number += 1;
@@ -120,7 +122,9 @@ impl Cutter {
         ensures number { OnOk result (self.new.number ≤ self.old.number + 1) }
         ensures kind { OnOk result (self.new.kind ≡ after_prolog self.old.kind) }
         ensures from { OnOk result (self.new.from ≤ at) }
-        ensures leads { OnOk result ((end : ℕ) (marks : List Mark) (whole : List Section) → prolog_end end marks ≡ at → Leads self.old end marks whole → Leads self.new end marks whole) }
+        ensures leads { OnOk result ((end : ℕ) (marks : List Mark) (whole : List Section) →
+            prolog_end end marks ≡ at → Leads self.old end marks whole →
+            Leads self.new end marks whole) }
     {
         if self.kind == SectionKind::Prolog {
             self.open(SectionKind::Setup, at)?;
@@ -134,7 +138,8 @@ impl Cutter {
         requires room { self.old.number + 2 < 2 ^ 32 }
         ensures number { OnOk result (self.new.number ≤ self.old.number + 2) }
         ensures from { OnOk result (self.new.from ≤ place_of mark) }
-        ensures leads { OnOk result ((end : ℕ) (marks : List Mark) (whole : List Section) → Leads self.old end (mark ∷ marks) whole → Leads self.new end marks whole) }
+        ensures leads { OnOk result ((end : ℕ) (marks : List Mark) (whole : List Section) →
+            Leads self.old end (mark ∷ marks) whole → Leads self.new end marks whole) }
     {
         if self.kind == SectionKind::Trailer {
             return Ok(());
@@ -161,7 +166,8 @@ impl Cutter {
         ensures number { OnOk result (self.new.number ≤ self.old.number + 1) }
         ensures kind { OnOk result (self.new.kind ≡ kind.Trailer) }
         ensures from { OnOk result (self.new.from ≤ end) }
-        ensures leads { OnOk result ((whole : List Section) → Leads self.old end [] whole → Leads self.new end [] whole) }
+        ensures leads { OnOk result ((whole : List Section) →
+            Leads self.old end [] whole → Leads self.new end [] whole) }
     {
         if self.kind != SectionKind::Trailer {
             self.open(SectionKind::Trailer, end)?;
@@ -173,8 +179,10 @@ impl Cutter {
     fn finish(mut self, end: usize) -> Result<Sections, SplitError>
         requires forward { self.from ≤ end }
         requires room { self.number + 2 < 2 ^ 32 }
-        ensures ok { IfOk result (λ sections. (whole : List Section) → Leads self end [] whole → (sections ≡ whole) × (length whole ≤ MAX_SECTIONS)) }
-        ensures err { IfErr result (λ error. (whole : List Section) → Leads self end [] whole → IsTooMany whole error) }
+        ensures ok { IfOk result (λ sections. (whole : List Section) →
+            Leads self end [] whole → (sections ≡ whole) × (length whole ≤ MAX_SECTIONS)) }
+        ensures err { IfErr result (λ error. (whole : List Section) →
+            Leads self end [] whole → IsTooMany whole error) }
     {
         self.end_prolog(end)?;
         self.end_part(end)?;
@@ -207,14 +215,21 @@ fn trailing_len(text: &[u8]) -> usize
         .count()
 }
 
+/// Whether a text begins as one with document structure does.
+pub fn begins_with_header(text: &[u8]) -> bool
+    ensures { result ≡ begins_with_header text.now }
+{
+    text.starts_with(b"%!PS-Adobe-")
+}
+
 /// The marks of a job that begins at a place: none where it has no header.
 fn marks_of_job(text: &[u8], start: usize) -> Marks<'_>
     requires { start ≤ length text.now }
     ensures job { result.job.now ≡ text.now }
-    ensures at { result.at ≡ (if starts_with nat_eq (drop start text.now) (codes "%!PS-Adobe-") then start else length text.now) }
+    ensures at { result.at ≡ marks_begin text.now start }
     ensures depth { result.depth ≡ 0 }
 {
-    if text[start..].starts_with(b"%!PS-Adobe-") {
+    if begins_with_header(&text[start..]) {
         Marks::new(text, start)
     } else {
         Marks::new(text, text.len())

@@ -1,4 +1,6 @@
-//! Cutting a job into its sections by the document structuring conventions.
+//! Cutting a job into its sections by the comments of the document structuring conventions: where the prolog ends, where
+//! pages and the trailer begin, and which parts hold inner documents or counted data. That each line is read alone, and
+//! what a job without header or end is, are the project's own rules.
 #![tactic(auto)]
 
 mod comment;
@@ -11,7 +13,7 @@ mod section;
 mod tests;
 mod words;
 
-pub use cutter::{MAX_PAGES, SplitError, split};
+pub use cutter::{CONTROL_D, MAX_PAGES, SplitError, begins_with_header, split};
 pub use law::sections_law;
 pub use ps_objects::{NoMemory, SectionKind};
 pub use section::{Section, Sections};

@@ -70,7 +70,8 @@ impl<'a> Marks<'a> {
     #[tactic(auto, using(crate::proofs::MarkLemmas::marks_step))]
     fn step(&mut self) -> Option<Mark>
         requires { self.old.at < length self.old.job.now }
-        ensures marks { marks_from self.old.depth self.old.at self.old.job.now ≡ option_to_list result ++ marks_from self.new.depth self.new.at self.new.job.now }
+        ensures marks { marks_from self.old.depth self.old.at self.old.job.now ≡
+            option_to_list result ++ marks_from self.new.depth self.new.at self.new.job.now }
         ensures job { self.new.job.now ≡ self.old.job.now }
         ensures further { self.old.at < self.new.at }
     {

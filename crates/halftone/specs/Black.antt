@@ -1,4 +1,5 @@
--- Which pixels of a gray are black.
+-- Which pixels of a gray are black: by a table of thresholds, in which 0 counts as 1 (section 6.4 of the language manual, halftones), or by
+-- a start matrix, which is the project's own.
 use Rattle.std.specs.Prelude.{ℕ, ℤ, pos, ◌+◌, ◌*◌, ◌/◌, ◌%◌, ◌*ℤ◌, List, max, slice_index, nat_eq, int_lt, int_le, Bool, if◌then◌else◌}
 
 -- twice the exclusive or of the lowest bits of two numbers, and the second one's lowest bit

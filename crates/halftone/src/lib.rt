@@ -1,4 +1,5 @@
-//! Which pixels of a gray are black.
+//! Which pixels of a gray are black: by a table of thresholds (section 6.4 of the language manual, halftones), or by a
+//! start matrix, which is the project's own.
 #![tactic(auto)]
 
 ghost use Rattle.std.specs.Prelude.{◌+◌, ◌%◌, ◌≡◌, ◌*◌, ◌<◌, ◌≤◌, length};

@@ -1,4 +1,6 @@
--- Which pixels are inside polygons, each pixel alone.
+-- Which pixels are inside polygons, each pixel alone: by the nonzero winding number or by the even-odd rule (section 4.5.3 of the
+-- language manual), or inside one polygon at least, which is the project's own rule for strokes. A pixel stands for its centre, which is
+-- the project's own rule too.
 use Rattle.std.specs.Prelude.{ℕ, ℤ, pos, ◌+◌, ◌-◌, ◌*◌, ◌%◌, ◌+ℤ◌, ◌-ℤ◌, ◌*ℤ◌, List, [], ◌∷◌, length, slice_get, Option, Some, None, Bool, true, false, not, ◌&&◌, nat_eq, int_le, int_lt, sum_by, count_by, if◌then◌else◌}
 use Rattle.std.specs.List.{list_any}
 use Rattle.ps_shapes.specs.declared.polygon.Point.{Point}
@@ -27,6 +29,7 @@ abbrev pub sides_from : Option Point → List Point → List (Point × Point)
 sides_from None ps = []
 sides_from (Some p) ps = sides_after p ps
 
+-- the edges of a closed polygon from its points
 abbrev pub sides : List Point → List (Point × Point)
 sides ps = sides_from (slice_get ps (length ps - 1)) ps
 
@@ -34,6 +37,7 @@ sides ps = sides_from (slice_get ps (length ps - 1)) ps
 abbrev pub counts : Bool → ℕ → ℕ → Point × Point → Bool
 counts down x y s = if down then passes s.0 s.1 x y else passes s.1 s.0 x y
 
+-- how many edges of a polygon count at the pixel in a direction
 abbrev pub counted : Bool → ℕ → ℕ → List Point → ℕ
 counted down x y polygon = count_by (counts down x y) (sides polygon)
 
@@ -41,6 +45,7 @@ counted down x y polygon = count_by (counts down x y) (sides polygon)
 abbrev pub is_inside : Bool → ℕ → ℕ → Bool
 is_inside odd ups downs = if odd then nat_eq ((ups + downs) % 2) 1 else not (nat_eq ups downs)
 
+-- inside all polygons, taken as one
 abbrev pub covers_together : Bool → List (List Point) → ℕ → ℕ → Bool
 covers_together odd polygons x y = is_inside odd (sum_by (counted true x y) polygons) (sum_by (counted false x y) polygons)
 

@@ -29,7 +29,8 @@ fn gather_after(
     points: &[Point],
     height: u32,
 ) -> Result<(), NoMemory>
-    ensures { OnOk result (CountsMore height (λ down x y. count_by (counts down x y) (sides_after start points.now))
+    ensures { OnOk result (CountsMore height
+        (λ down x y. count_by (counts down x y) (sides_after start points.now))
         edges.old.items edges.new.items) }
 {
     let mut from = start;
@@ -42,7 +43,8 @@ fn gather_after(
 
 /// Adds the edge between two points, if it passes the centre of a row.
 fn add_side(edges: &mut Vec<Edge>, from: Point, to: Point, height: u32) -> Result<(), NoMemory>
-    ensures { OnOk result (CountsMore height (λ down x y. if counts down x y (from, to) then 1 else 0)
+    ensures { OnOk result (CountsMore height
+        (λ down x y. if counts down x y (from, to) then 1 else 0)
         edges.old.items edges.new.items) }
 {
     let start = row_at(from.y, height);

@@ -1,4 +1,5 @@
-//! The pixels that polygons cover.
+//! The pixels that polygons cover. What is inside them is section 4.5.3 of the language manual (insideness testing);
+//! that a pixel is covered where its centre is inside is the project's own rule.
 #![tactic(auto)]
 
 mod crossing;
@@ -14,9 +15,9 @@ ghost use Rattle.path_cover.specs.Adding.{HoldsExactly};
 ghost use Rattle.path_cover.specs.Cover.{covers, covers_together, covers_one};
 ghost use Rattle.path_cover.specs.Scattered.{IsScattered};
 
+use copy_lists::NoMemory;
 use gather::gather;
 use merge::merge;
-use copy_lists::NoMemory;
 use ps_shapes::{Polygon, Polygons, Rule, Span, Spans};
 use scan::scan;
 use std::alloc::Global;
@@ -47,7 +48,8 @@ fn unordered(
     width: u32,
     height: u32,
 ) -> Result<Vec<Span>, NoMemory>
-    ensures exact { IfOk result (λ s. HoldsExactly width height (covers polygons.now rule) s.items) }
+    ensures exact { IfOk result (λ s.
+        HoldsExactly width height (covers polygons.now rule) s.items) }
     ensures raw { IfOk result (λ s. IsScattered width height s.items) }
 {
     match rule {
@@ -65,7 +67,8 @@ fn together(
     width: u32,
     height: u32,
 ) -> Result<Vec<Span>, NoMemory>
-    ensures exact { IfOk result (λ s. HoldsExactly width height (covers_together odd polygons.now) s.items) }
+    ensures exact { IfOk result (λ s.
+        HoldsExactly width height (covers_together odd polygons.now) s.items) }
     ensures raw { IfOk result (λ s. IsScattered width height s.items) }
 {
     let mut edges = Vec::new(alloc);

@@ -111,7 +111,8 @@ fn step(
     ensures next { IfOk result (λ n. n ≤ length edges.now) }
     ensures kept { IfOk result (λ n. CountsOnFrom line.row active.old.items (drop next edges.now)
         active.new.items (drop n edges.now)) }
-    ensures exact { OnOk result (AddsInRow line.row line.width (is_inside_both line.odd line.row active.old.items (drop next edges.now))
+    ensures exact { OnOk result (AddsInRow line.row line.width
+        (is_inside_both line.odd line.row active.old.items (drop next edges.now))
         spans.old.items spans.new.items) }
     ensures place { OnOk result (StaysWithRow line.row line.width spans.old.items spans.new.items) }
 {
@@ -153,7 +154,8 @@ fn add_line(
     out: &mut Vec<Crossing>,
     spans: &mut Vec<Span>,
 ) -> Result<(), NoMemory>
-    ensures exact { OnOk result (AddsInRow line.row line.width (λ x. marked line.odd active.now x line.row)
+    ensures exact { OnOk result (AddsInRow line.row line.width
+        (λ x. marked line.odd active.now x line.row)
         spans.old.items spans.new.items) }
     ensures place { OnOk result (StaysWithRow line.row line.width spans.old.items spans.new.items) }
 {

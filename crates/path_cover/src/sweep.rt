@@ -18,7 +18,8 @@ pub(crate) fn sweep(
     spans: &mut Vec<Span>,
 ) -> Result<(), NoMemory>
     requires { IsNonDecreasingBy (λ c. c.column) crossings.now }
-    ensures exact { OnOk result (AddsInRow row width (crossed odd crossings.now) spans.old.items spans.new.items) }
+    ensures exact { OnOk result (AddsInRow row width (crossed odd crossings.now)
+        spans.old.items spans.new.items) }
     ensures place { OnOk result (StaysWithRow row width spans.old.items spans.new.items) }
 {
     let mut downs = 0usize;
@@ -38,7 +39,8 @@ pub(crate) fn sweep(
 /// Adds the span of a gap between two crossings, if the gap is inside.
 fn gap(spans: &mut Vec<Span>, row: u32, first: u32, past: u32, inside: bool) -> Result<(), NoMemory>
     ensures exact { OnOk result (AddsGap row first past inside spans.old.items spans.new.items) }
-    ensures place { OnOk result ((width : ℕ) → past ≤ width → StaysWithRow row width spans.old.items spans.new.items) }
+    ensures place { OnOk result ((width : ℕ) → past ≤ width →
+        StaysWithRow row width spans.old.items spans.new.items) }
 {
     if inside && first < past {
         spans.push(Span { row, first, past })?;

@@ -1,7 +1,7 @@
 -- The steps of the bisection.
 use Rattle.std.proofs.Common.{◌≡◌, ℕ, zero, suc, ◌+◌, ◌-◌, ◌/◌, ◌<◌, ◌≤◌, refl, ap, ap₂, sym, ◌∙◌, Bool, true, false, cond, nat_lt, arith}
 use Rattle.std.proofs.lemmas.Bool.Decides.{nat_tests}
-use Rattle.ps_fixed.specs.Angles.{is_no_steeper, bisection_by, bisection}
+use Rattle.ps_fixed.specs.ArcTangents.{is_no_steeper, bisection_by, bisection}
 
 below_true : (a b : ℕ) → a < b → nat_lt a b ≡ true
 below_true a b h = grind (arith, nat_tests)

@@ -8,7 +8,8 @@ use Rattle.ps_shapes.specs.declared.numbers.Real.{Real}
 use Rattle.ps_fixed.specs.declared.rounding.Undefined.{Undefined}
 use Rattle.ps_fixed.specs.Rounding.{nearest_quotient, nearest_count, fits_i64, real_of}
 use Rattle.ps_fixed.specs.Arithmetic.{nearest_real}
-use Rattle.ps_fixed.specs.Angles.{quarter_turn, half_turn, three_quarter_turn, full_turn, reduced_angle, sine_series, axis_sine, quarter_sine, sine_at, bisection, acute_angle, angle_at}
+use Rattle.ps_fixed.specs.Sines.{quarter_turn, half_turn, three_quarter_turn, full_turn, reduced_angle, sine_series, axis_sine, quarter_sine, sine_at}
+use Rattle.ps_fixed.specs.ArcTangents.{bisection, acute_angle, angle_at}
 use Rattle.ps_fixed.specs.Laws.{IsNearest, IsWithinHalf, NearestLaw, ProductLaw, QuotientLaw, HalfTurnLaw, OddLaw, IsInQuadrant, QuadrantLaw}
 use Rattle.ps_fixed.proofs.Floors.{floor_low, floor_high, floor_unique}
 use Rattle.ps_fixed.proofs.Series.{reduced_here, reduced_later, reduced_below}

@@ -4,7 +4,7 @@ use Rattle.std.specs.Prelude.{ℤ, pos, ◌+ℤ◌, unsigned_abs}
 use Rattle.std.proofs.lemmas.Int.{ints, int_rem_euclid_is}
 use Rattle.std.proofs.Math.Nat.{div-div-eq-div-mul, div-le_of_le-mul}
 use borrow.Author.Differences.{up, down}
-use Rattle.ps_fixed.specs.Angles.{full_turn, reduced_angle}
+use Rattle.ps_fixed.specs.Sines.{full_turn, reduced_angle}
 
 pub term_less : (t x2 n : ℕ) → 0 < n → x2 ≤ n * 2 ^ 40 → t * x2 / 2 ^ 40 / n ≤ t
 term_less t x2 n p h =

@@ -3,7 +3,8 @@ use Rattle.std.specs.Prelude.{◌≡◌, ℕ, ◌+◌, ◌*◌, ◌^◌, ◌<◌
 use Rattle.ps_shapes.specs.declared.numbers.Real.{Real}
 use Rattle.ps_fixed.specs.Rounding.{nearest_quotient}
 use Rattle.ps_fixed.specs.Arithmetic.{product_of, quotient_of}
-use Rattle.ps_fixed.specs.Angles.{sine_of, arc_tangent, quarter_turn, half_turn, three_quarter_turn}
+use Rattle.ps_fixed.specs.Sines.{sine_of, quarter_turn, half_turn, three_quarter_turn}
+use Rattle.ps_fixed.specs.ArcTangents.{arc_tangent}
 
 -- r ≤ p / q + 1/2 < r + 1
 pub record IsNearest (r p : ℤ) (q : ℕ) : Type 0 where

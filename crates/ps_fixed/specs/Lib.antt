@@ -2,6 +2,7 @@ pub mod Rounding
 pub mod Arithmetic
 pub mod Matrices
 pub mod Roots
-pub mod Angles
+pub mod Sines
+pub mod ArcTangents
 pub mod Decimals
 pub mod Laws

@@ -1,12 +1,11 @@
 //! Sines, cosines and arc tangents, in degrees.
 ghost use Rattle.std.specs.Prelude.{◌≡◌, ◌+◌, ◌*◌, ◌/◌, ◌%◌, ◌^◌, ◌<◌, ◌≤◌, pos, neg_ℤ, ◌+ℤ◌, ◌-ℤ◌, ◌*ℤ◌, ◌≤ℤ◌, ◌<ℤ◌, IfOk};
 ghost use Rattle.std.specs.Int.{int_min};
-ghost use Rattle.ps_fixed.specs.Angles.{quarter_turn, full_turn, reduced_angle, next_term, series_sum, series_at, sine_series, sine_at, sine_of, cosine_of, is_no_steeper, bisection, IsBracketed, arc_tangent};
+ghost use Rattle.ps_fixed.specs.Sines.{quarter_turn, full_turn, reduced_angle, next_term, series_sum, series_at, sine_series, sine_at, sine_of, cosine_of};
+ghost use Rattle.ps_fixed.specs.ArcTangents.{is_no_steeper, bisection, IsBracketed, arc_tangent};
 
 use crate::rounding::Undefined;
-use ps_shapes::Real;
-
-const ONE: i64 = 1 << 24;
+use ps_shapes::{ONE, Real};
 
 const QUARTER_TURN: u64 = 90 << 24;
 
@@ -19,7 +18,7 @@ const RADIANS: u128 = 19190098068;
 
 // ---- sines
 
-#[tactic(auto, unfolding(crate::specs::Angles::reduced_angle))]
+#[tactic(auto, unfolding(crate::specs::Sines::reduced_angle))]
 fn reduced_angle(count: i64) -> u64
     ensures value { result ≡ reduced_angle count }
     ensures bound { result < full_turn }
@@ -48,7 +47,8 @@ fn alternating_sum(t1: u64, t3: u64, t5: u64, t7: u64, t9: u64, t11: u64, t13: u
     requires ninth { t9 ≤ t7 }
     requires eleventh { t11 ≤ t9 }
     requires thirteenth { t13 ≤ t11 }
-    ensures value { pos result ≡ pos t1 -ℤ pos t3 +ℤ pos t5 -ℤ pos t7 +ℤ pos t9 -ℤ pos t11 +ℤ pos t13 }
+    ensures value { pos result ≡
+        pos t1 -ℤ pos t3 +ℤ pos t5 -ℤ pos t7 +ℤ pos t9 -ℤ pos t11 +ℤ pos t13 }
     ensures bound { result < 2 ^ 44 }
 {
     (t1 - t3) + (t5 - t7) + (t9 - t11) + t13
@@ -112,7 +112,7 @@ fn square(x: u64) -> u64
     ((x as u128 * x as u128) >> 40) as u64
 }
 
-#[tactic(auto, unfolding(crate::specs::Angles::sine_series))]
+#[tactic(auto, unfolding(crate::specs::Sines::sine_series))]
 fn sine_series(s: u64) -> i64
     requires { s ≤ quarter_turn }
     ensures value { result ≡ sine_series s }
@@ -124,7 +124,7 @@ fn sine_series(s: u64) -> i64
     series_at(x, x2)
 }
 
-#[tactic(auto, unfolding(crate::specs::Angles::sine_at))]
+#[tactic(auto, unfolding(crate::specs::Sines::sine_at))]
 fn sine_at(r: u64) -> i64
     requires { r < full_turn }
     ensures value { result ≡ sine_at r }
@@ -208,7 +208,7 @@ fn times(sine: i64, side: u64) -> i128
     sine as i128 * side as i128
 }
 
-#[tactic(auto, unfolding(crate::specs::Angles::is_no_steeper))]
+#[tactic(auto, unfolding(crate::specs::ArcTangents::is_no_steeper))]
 fn is_no_steeper(place: u64, num: u64, den: u64) -> bool
     requires { place < 90 * 65536 }
     ensures { result ≡ is_no_steeper place num den }

@@ -9,7 +9,7 @@ use crate::rounding::{Undefined, nearest_count, real_of};
 use ps_shapes::Real;
 use std::num::{nearest_u64_to_f64, saturating_f64_to_u64};
 
-const ONE: u128 = 1 << 24;
+const ONE: u128 = ps_shapes::ONE as u128;
 
 /// The whole product, in counts of 2^-48.
 pub fn product(a: Real, b: Real) -> i128

@@ -7,7 +7,7 @@ ghost use Rattle.ps_fixed.specs.Decimals.{decimal_of, signed_by, decimal_up, dec
 use crate::rounding::{Undefined, nearest_quotient, real_of};
 use ps_shapes::Real;
 
-const ONE: u128 = 1 << 24;
+const ONE: u128 = ps_shapes::ONE as u128;
 
 fn signed_by(negative: bool, magnitude: u128) -> i128
     requires { magnitude < 2 ^ 127 }

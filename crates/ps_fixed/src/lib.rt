@@ -1,4 +1,6 @@
-//! Fixed-point arithmetic: reals are counts of 2^-24 in an i64, and each result is rounded once, halves upward.
+//! Fixed-point arithmetic: reals are counts of 2^-24 in an i64, and each result is rounded once, halves upward. Matrices
+//! are those of section 4.3 of the language manual (coordinate systems and transformations); the range and the rounding
+//! of reals, which it leaves open, are the project's own rules.
 #![tactic(auto)]
 
 mod angles;

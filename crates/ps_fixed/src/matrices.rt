@@ -10,7 +10,7 @@ use crate::arithmetic::{add, mul, product};
 use crate::rounding::{Undefined, nearest_count, nearest_real, real_of};
 use ps_shapes::{Matrix, Real};
 
-const ONE: i128 = 1 << 24;
+const ONE: i128 = ps_shapes::ONE as i128;
 
 const ONE_SQUARED: i128 = 1 << 48;
 
@@ -33,7 +33,8 @@ fn fraction(p: i128) -> i128
 
 // The fractions of p and q, added and rounded.
 fn carry(p: i128, q: i128) -> i128
-    ensures value { result ≡ nearest_count ((p -ℤ floor_of p (2 ^ 24) *ℤ pos (2 ^ 24)) +ℤ (q -ℤ floor_of q (2 ^ 24) *ℤ pos (2 ^ 24))) }
+    ensures value { result ≡ nearest_count ((p -ℤ floor_of p (2 ^ 24) *ℤ pos (2 ^ 24))
+        +ℤ (q -ℤ floor_of q (2 ^ 24) *ℤ pos (2 ^ 24))) }
     ensures bound { unsigned_abs result ≤ 3 }
 {
     nearest_count(fraction(p) + fraction(q))

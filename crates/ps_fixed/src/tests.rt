@@ -3,9 +3,8 @@ use crate::{
     Matrix, Real, Undefined, add, apply, apply_delta, atan, cos, decimal, div, mat_invert, mat_mul,
     mul, sin, sqrt, sub,
 };
+use ps_shapes::ONE;
 use std::process::Abort;
-
-const ONE: i64 = 1 << 24;
 
 fn real(count: i64) -> Real {
     Real { count }

@@ -21,8 +21,8 @@ pub use ps_objects::{
     SaveName, SectionKind, Settings, Shape, Space, Value, dict_room, op_name, places,
 };
 pub use ps_shapes::{
-    Clip, Clips, DevicePoint, Matrix, Paper, Path, Point, Polygon, Polygons, Real, Rule, Segment,
-    Span, Spans, SpansList, Thresholds,
+    Clip, Clips, DevicePoint, Matrix, ONE, Paper, Path, Point, Polygon, Polygons, Real, Rule,
+    Segment, Span, Spans, SpansList, Thresholds,
 };
 pub use ranges::{Component, Lengths, LineCap, LineJoin, LineWidth, MiterLimit, PageSide};
 pub use regs::{Pages, Papers, RegField, Regs, SaveMark, Saves};

@@ -1,7 +1,7 @@
 //! Numbers of the graphics state, each within its range.
 ghost use Rattle.std.specs.Prelude.{◌≡◌, ◌≤◌, ◌≤ℤ◌, pos, IfOk};
 
-use crate::{NoMemory, Real};
+use crate::{NoMemory, ONE, Real};
 use std::alloc::Global;
 use std::marker::Model;
 
@@ -84,21 +84,22 @@ pub struct MiterLimit {
 }
 
 impl Model for MiterLimit {
-    ghost use Rattle.std.specs.Prelude.{◌≤ℤ◌, pos};
+    ghost use Rattle.std.specs.Prelude.{◌≤ℤ◌};
     ghost use Rattle.ps_shapes.specs.declared.numbers.Real.{Real};
+    ghost use Rattle.ps_shapes.specs.declared.numbers.TheConstants.{ONE};
 
     ghost Value = { Real };
 
     ghost view = { λ m. m.real };
 
-    ghost invariant = { λ m. pos 16777216 ≤ℤ m.real.count };
+    ghost invariant = { λ m. ONE ≤ℤ m.real.count };
 
     ghost inverse = { λ real. record { real = real } };
 }
 
 impl MiterLimit {
     pub fn new(real: Real) -> MiterLimit
-        requires { pos 16777216 ≤ℤ real.count }
+        requires { ONE ≤ℤ real.count }
         ensures { result ≡ real }
     {
         MiterLimit { real }
@@ -106,7 +107,7 @@ impl MiterLimit {
 
     pub fn real(self) -> Real
         ensures value { result ≡ self }
-        ensures one_or_more { pos 16777216 ≤ℤ result.count }
+        ensures one_or_more { ONE ≤ℤ result.count }
     {
         self.real
     }

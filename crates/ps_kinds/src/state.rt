@@ -2,6 +2,7 @@
 ghost use Rattle.std.specs.Prelude.{◌≡◌, IfOk};
 
 use crate::{Frames, NoMemory, Regs, SectionKind, Settings};
+use copy_lists::may_be_shared;
 
 /// What a section holds while it runs, besides memory.
 #[derive(Drop)]
@@ -50,8 +51,6 @@ impl State {
         })
     }
 }
-
-fn may_be_shared<T: Send + Sync>(_value: &T) {}
 
 /// A state, and all that it holds, may be sent to and shared between threads.
 pub fn state_may_be_shared(state: &State) {

@@ -11,7 +11,7 @@ fn null() -> Object {
 
 fn start(rt: &HostRuntime) -> GState {
     let zero = Real { count: 0 };
-    let one = Real { count: 16777216 };
+    let one = Real { count: ONE };
     GState {
         ctm: Matrix {
             a: one,

@@ -2,7 +2,7 @@
 
 use crate::operator_names::error_name;
 
-/// The errors of the language, in the order of their names (section 8.1 of the language manual).
+/// The errors of the language, in the order of their names (section 3.10 of the language manual).
 #[derive(Clone, Copy, Debug, PartialEq, Eq)]
 pub enum ErrorName {
     DictStackOverflow,

@@ -1,7 +1,9 @@
 -- Objects as keys.
-use Rattle.std.specs.Prelude.{ℕ, pos, negsuc, ◌&&◌, ◌==◌, List, if◌then◌else◌, int_le, int_div, int_rem, Option, Some, None, Result, Ok, Err}
+use Rattle.std.specs.Prelude.{ℕ, pos, negsuc, ◌&&◌, ◌==◌, List, false, if◌then◌else◌, int_le, int_div, int_rem, Option, Some, None, Result, Ok, Err}
 use Rattle.std.specs.Ordering.{int_eq}
 use Rattle.ps_shapes.specs.declared.numbers.Real.{Real}
+use Rattle.ps_shapes.specs.declared.numbers.TheConstants.{ONE}
+use Rattle.ps_objects.specs.declared.access.Access.TheVariants.{Unlimited}
 use Rattle.ps_objects.specs.declared.cell.Cell.{Cell}
 use Rattle.ps_names.specs.declared.error_name.ErrorName.{ErrorName}
 use Rattle.ps_names.specs.declared.error_name.ErrorName.TheVariants.{TypeCheck}
@@ -17,8 +19,8 @@ use Rattle.ps_objects.specs.declared.object.Kind.TheVariants as kind
 -- a whole real with 32 bits is the integer
 abbrev pub real_key : Real → Key
 real_key real =
-    let whole = int_div real.count (pos 16777216) in
-    if int_eq (int_rem real.count (pos 16777216)) (pos 0) && (int_le (negsuc 2147483647) whole && int_le whole (pos 2147483647)) then key.Integer whole else key.Real real
+    let whole = int_div real.count ONE in
+    if int_eq (int_rem real.count ONE) (pos 0) && (int_le (negsuc 2147483647) whole && int_le whole (pos 2147483647)) then key.Integer whole else key.Real real
 
 -- an object as a key: null is a typecheck, and of a string the bytes count
 abbrev pub key_form_of : Kind → Result KeyForm ErrorName
@@ -37,6 +39,7 @@ key_form_of (kind.Filter section layer) = Ok (form.Key (key.File section layer))
 key_form_of (kind.Save save) = Ok (form.Key (key.Save save))
 key_form_of (kind.FontId cell) = Ok (form.Key (key.FontId cell))
 
+-- the operand as a key
 abbrev pub key_form_at : ℕ → List Object → Result KeyForm ErrorName
 key_form_at = typed key_form_of
 
@@ -53,6 +56,10 @@ key_kind (key.File section layer) = if layer == 0 then kind.File section else ki
 key_kind (key.Save save) = kind.Save save
 key_kind (key.FontId cell) = kind.FontId cell
 key_kind key.Mark = kind.Mark
+
+-- a key as programs are told it: a literal object with unlimited access
+abbrev pub told_key : Key → Object
+told_key k = record { kind = key_kind k; exec = false; access = Unlimited }
 
 -- the cell that a key names
 abbrev pub cell_of_key : Key → Option Cell

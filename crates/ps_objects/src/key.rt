@@ -1,12 +1,12 @@
 //! Keys of dictionaries.
-ghost use Rattle.std.specs.Prelude.{◌≡◌, IfOk, false};
+ghost use Rattle.std.specs.Prelude.{◌≡◌, IfOk};
 ghost use Rattle.ps_objects.specs.Operands.{Reads};
-ghost use Rattle.ps_objects.specs.Key.{key_form_of, real_key, key_kind, cell_of_key};
+ghost use Rattle.ps_objects.specs.Key.{key_form_of, real_key, key_kind, cell_of_key, told_key};
 ghost use Rattle.ps_objects.specs.Order.{key_order};
 
 use crate::{
-    Access, Cell, Duplicate, ErrorName, Interval, Kind, Name, NoMemory, Object, Op, Real, Refusal,
-    SaveName, Sequence,
+    Access, Cell, Duplicate, ErrorName, Interval, Kind, Name, NoMemory, ONE, Object, Op, Real,
+    Refusal, SaveName, Sequence,
 };
 use std::cmp::Ordering;
 
@@ -73,7 +73,7 @@ impl Key {
 
     /// The key as programs are told it: a literal object with unlimited access.
     pub fn object(&self) -> Result<Object, NoMemory>
-        ensures { IfOk result (λ object. object ≡ record { kind = key_kind self.now; exec = false; access = Access.Unlimited }) }
+        ensures { IfOk result (λ object. object ≡ told_key self.now) }
     {
         Ok(Object {
             kind: self.kind()?,
@@ -167,8 +167,8 @@ fn file_kind(section: u32, layer: u32) -> Kind
 fn real_key(real: Real) -> Key
     ensures { result ≡ real_key real }
 {
-    let whole = real.count / 16777216;
-    if real.count % 16777216 == 0 && -2147483648 <= whole && whole <= 2147483647 {
+    let whole = real.count / ONE;
+    if real.count % ONE == 0 && -2147483648 <= whole && whole <= 2147483647 {
         let integer = whole as i32;
         Key::Integer(integer)
     } else {

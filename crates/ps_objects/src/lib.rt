@@ -28,7 +28,7 @@ pub use objects::{
 };
 pub use place::{Loc, Shape, Value};
 pub use ps_names::{ErrorName, NAME_LIMIT, Op, op_name, places};
-pub use ps_shapes::{Matrix, Paper, Real};
+pub use ps_shapes::{Matrix, ONE, Paper, Real};
 pub use refusal::Refusal;
 pub use section::SectionKind;
 pub use settings::Settings;

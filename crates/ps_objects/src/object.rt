@@ -40,31 +40,45 @@ pub struct Object {
 // Stacks and memory hold many objects.
 const _: () = prove!(size_of::<Object>() <= 48);
 
+/// An object of these parts.
+macro_rules! whole {
+    ($exec:expr, $access:expr, $kind:expr) => {
+        Object { kind: $kind, exec: $exec, access: $access }
+    };
+}
+
 /// An equal object, or what `$wrap` makes of it. Each arm makes the whole: an object that is put together after the match
 /// costs twice as much.
 macro_rules! copied {
     ($object:expr, $($wrap:tt)*) => {{
-        let object = $object;
-        Ok(match &object.kind {
-            Kind::Integer(n) => $($wrap)*(Object { kind: Kind::Integer(*n), exec: object.exec, access: object.access }),
-            Kind::Real(r) => $($wrap)*(Object { kind: Kind::Real(*r), exec: object.exec, access: object.access }),
-            Kind::Boolean(b) => $($wrap)*(Object { kind: Kind::Boolean(*b), exec: object.exec, access: object.access }),
-            Kind::Null => $($wrap)*(Object { kind: Kind::Null, exec: object.exec, access: object.access }),
-            Kind::Mark => $($wrap)*(Object { kind: Kind::Mark, exec: object.exec, access: object.access }),
-            Kind::Name(name) => $($wrap)*(Object { kind: Kind::Name(name.copy()?), exec: object.exec, access: object.access }),
-            Kind::Operator(op) => $($wrap)*(Object { kind: Kind::Operator(*op), exec: object.exec, access: object.access }),
-            Kind::Str(part) => $($wrap)*(Object { kind: Kind::Str(*part), exec: object.exec, access: object.access }),
-            Kind::Array { interval, packed } => $($wrap)*(Object { kind: Kind::Array { interval: *interval, packed: *packed }, exec: object.exec, access: object.access }),
-            Kind::Dict(cell) => $($wrap)*(Object { kind: Kind::Dict(*cell), exec: object.exec, access: object.access }),
-            Kind::File { section } => $($wrap)*(Object { kind: Kind::File { section: *section }, exec: object.exec, access: object.access }),
-            Kind::Filter { section, layer } => $($wrap)*(Object { kind: Kind::Filter { section: *section, layer: *layer }, exec: object.exec, access: object.access }),
-            Kind::Save(save) => $($wrap)*(Object { kind: Kind::Save(*save), exec: object.exec, access: object.access }),
-            Kind::FontId(cell) => $($wrap)*(Object { kind: Kind::FontId(*cell), exec: object.exec, access: object.access }),
+        let Object { kind, exec, access } = $object;
+        Ok(match kind {
+            Kind::Integer(n) => $($wrap)*(whole!(*exec, *access, Kind::Integer(*n))),
+            Kind::Real(r) => $($wrap)*(whole!(*exec, *access, Kind::Real(*r))),
+            Kind::Boolean(b) => $($wrap)*(whole!(*exec, *access, Kind::Boolean(*b))),
+            Kind::Null => $($wrap)*(whole!(*exec, *access, Kind::Null)),
+            Kind::Mark => $($wrap)*(whole!(*exec, *access, Kind::Mark)),
+            Kind::Name(name) => $($wrap)*(whole!(*exec, *access, Kind::Name(name.copy()?))),
+            Kind::Operator(op) => $($wrap)*(whole!(*exec, *access, Kind::Operator(*op))),
+            Kind::Str(part) => $($wrap)*(whole!(*exec, *access, Kind::Str(*part))),
+            Kind::Array { interval, packed } => {
+                $($wrap)*(whole!(*exec, *access, Kind::Array { interval: *interval, packed: *packed }))
+            }
+            Kind::Dict(cell) => $($wrap)*(whole!(*exec, *access, Kind::Dict(*cell))),
+            Kind::File { section } => {
+                $($wrap)*(whole!(*exec, *access, Kind::File { section: *section }))
+            }
+            Kind::Filter { section, layer } => {
+                $($wrap)*(whole!(*exec, *access, Kind::Filter { section: *section, layer: *layer }))
+            }
+            Kind::Save(save) => $($wrap)*(whole!(*exec, *access, Kind::Save(*save))),
+            Kind::FontId(cell) => $($wrap)*(whole!(*exec, *access, Kind::FontId(*cell))),
         })
     }};
 }
 
 pub(crate) use copied;
+pub(crate) use whole;
 
 impl Kind {
     ghost use Rattle.ps_objects.specs.Object.{cell_named};

@@ -58,7 +58,8 @@ pub trait Operands {
 
     /// The operand that is `depth` below the newest.
     fn object(&self, depth: usize) -> Result<&Object, ErrorName>
-        ensures { MatchResult result (λ x. object_at depth (objects self.now) ≡ Ok x.now) (λ e. object_at depth (objects self.now) ≡ Err e) };
+        ensures { MatchResult result (λ x. object_at depth (objects self.now) ≡ Ok x.now)
+            (λ e. object_at depth (objects self.now) ≡ Err e) };
 
     fn integer(&self, depth: usize) -> Result<i32, ErrorName>
         ensures { result ≡ integer_at depth (objects self.now) };

@@ -1,7 +1,7 @@
 //! The places of memory, and the values there.
 ghost use Rattle.std.specs.Prelude.{◌≡◌, IfOk};
 
-use crate::object::copied;
+use crate::object::{copied, whole};
 use crate::{Access, Cell, Key, Keys, Kind, NoMemory, Object, Paper};
 
 /// A place of memory.

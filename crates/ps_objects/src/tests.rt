@@ -54,7 +54,7 @@ fn copies_are_equal(rt: HostRuntime) -> Result<(), Fail> {
 
 #[test]
 fn keys_are_in_their_order(rt: HostRuntime) -> Result<(), Fail> {
-    let one = Real { count: 16777216 };
+    let one = Real { count: ONE };
     assert!(rt; Kind::Real(one).key_form()? == KeyForm::Key(Key::Integer(1)));
     let mut keys = Keys::new(rt.alloc());
     keys.push(Key::Name(name(&rt, b"abc")?))?;

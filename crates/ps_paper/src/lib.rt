@@ -3,14 +3,14 @@
 
 mod rows;
 
-ghost use Rattle.std.specs.Prelude.{All, ◌≡◌, ◌<◌, ◌≤◌, ◌&&◌, length, drop, nat_eq, nat_lt};
-ghost use Rattle.ps_shapes.specs.Sheet.{IsWhole, repainted};
-ghost use Rattle.ps_shapes.specs.Span.{IsOnPaper, holds, is_in, is_in_all};
-ghost use Rattle.ps_paper.specs.Ink.{ink_of};
-ghost use Rattle.ps_paper.specs.Shared.{shared_of};
+ghost use Rattle.std.specs.Prelude.{All, ◌≡◌, ◌<◌, ◌≤◌, ◌&&◌};
+ghost use Rattle.ps_shapes.specs.Sheet.{IsWhole};
+ghost use Rattle.ps_shapes.specs.Span.{IsOnPaper, holds, is_in_all};
+ghost use Rattle.ps_paper.specs.Ink.{clipped, painted};
+ghost use Rattle.ps_paper.specs.Shared.{shared_of, touches};
 
 use halftone::black;
-use ps_shapes::{Paper, Real, Span, Spans, SpansList, Thresholds};
+use ps_shapes::{ONE, Paper, Real, Span, Spans, SpansList, Thresholds};
 use rows::of_row;
 
 /// Paints the pixels that are in the spans and in all clips black where the halftone of the gray is black, and white
@@ -23,7 +23,8 @@ pub fn paint(
     thresholds: &Thresholds,
 )
     requires { IsOnPaper paper.old.width paper.old.height spans.now }
-    ensures { paper.new ≡ repainted paper.old (λ x y. is_in spans.now x y && is_in_all clips.now x y) (ink_of gray.count thresholds.now) }
+    ensures { paper.new ≡ painted paper.old (clipped spans.now clips.now)
+        gray.count thresholds.now }
 {
     paint_each(paper, spans.as_slice(), clips.as_slice(), &gray, thresholds);
 }
@@ -38,7 +39,8 @@ fn paint_each(
 )
     requires filled { All (λ s. s.first ≤ s.past) spans.now }
     requires place { IsOnPaper paper.old.width paper.old.height spans.now }
-    ensures { paper.new ≡ repainted paper.old (λ x y. is_in spans.now x y && is_in_all clips.now x y) (ink_of gray.now.count thresholds.now) }
+    ensures { paper.new ≡ painted paper.old (clipped spans.now clips.now)
+        gray.now.count thresholds.now }
 {
     let _width = paper.width();
     for span in spans {
@@ -57,7 +59,8 @@ fn paint_within(
     requires row { span.row < paper.old.height }
     requires first { span.first ≤ span.past }
     requires past { span.past ≤ paper.old.width }
-    ensures { paper.new ≡ repainted paper.old (λ x y. holds x y span && is_in_all clips.now x y) (ink_of gray.now.count thresholds.now) }
+    ensures { paper.new ≡ painted paper.old (λ x y. holds x y span && is_in_all clips.now x y)
+        gray.now.count thresholds.now }
 {
     let _width = paper.width();
     if let Some((clip, rest)) = clips.split_first() {
@@ -85,7 +88,7 @@ fn shared(a: &Span, b: &Span) -> Span
 
 /// Whether the spans share a pixel, where neither is empty.
 fn touches(a: &Span, b: &Span) -> bool
-    ensures { result ≡ (nat_eq b.now.row a.now.row && nat_lt b.now.first a.now.past && nat_lt a.now.first b.now.past) }
+    ensures { result ≡ touches a.now b.now }
 {
     b.row == a.row && b.first < a.past && a.first < b.past
 }
@@ -95,12 +98,13 @@ fn paint_span(paper: &mut Paper, span: Span, gray: &Real, thresholds: &Threshold
     requires row { span.row < paper.old.height }
     requires first { span.first ≤ span.past }
     requires past { span.past ≤ paper.old.width }
-    ensures { paper.new ≡ repainted paper.old (λ x y. holds x y span) (ink_of gray.now.count thresholds.now) }
+    ensures { paper.new ≡ painted paper.old (λ x y. holds x y span)
+        gray.now.count thresholds.now }
 {
     let _width = thresholds.width();
     if gray.count <= 0 {
         paper.fill(span, true);
-    } else if gray.count >= 16777216 {
+    } else if gray.count >= ONE {
         paper.fill(span, false);
     } else {
         dither(paper, span, gray, thresholds);
@@ -112,7 +116,8 @@ fn dither(paper: &mut Paper, span: Span, gray: &Real, thresholds: &Thresholds)
     requires row { span.row < paper.old.height }
     requires first { span.first ≤ span.past }
     requires past { span.past ≤ paper.old.width }
-    ensures { paper.new ≡ repainted paper.old (λ x y. holds x y span) (ink_of gray.now.count thresholds.now) }
+    ensures { paper.new ≡ painted paper.old (λ x y. holds x y span)
+        gray.now.count thresholds.now }
 {
     let _width = paper.width();
     let width = thresholds.width();

@@ -11,6 +11,7 @@ use Rattle.ps_fixed.specs.Decimals.{signed_by, decimal_of}
 abbrev pub is_sign : ℕ → Bool
 is_sign b = b == 43 || b == 45
 
+-- a minus sign in front
 abbrev pub is_negative : List ℕ → Bool
 is_negative [] = false
 is_negative (b ∷ bs) = b == 45
@@ -20,6 +21,7 @@ abbrev pub unsigned : List ℕ → List ℕ
 unsigned [] = []
 unsigned (b ∷ bs) = if is_sign b then bs else b ∷ bs
 
+-- no bytes
 abbrev pub is_empty : List ℕ → Bool
 is_empty bs = length bs == 0
 
@@ -45,6 +47,7 @@ integer_value row = in_32_bits (is_negative row) (digits_value 10 (unsigned row)
 abbrev pub is_exponent_mark : ℕ → Bool
 is_exponent_mark b = b == 101 || b == 69
 
+-- a decimal point
 abbrev pub is_point : ℕ → Bool
 is_point b = b == 46
 
@@ -93,6 +96,7 @@ real_value row =
     let exponent = exponent_value (drop (length (mantissa row)) (unsigned row)) in
     decimal_of (is_negative row) (significand (mantissa row)) (scale (mantissa row) exponent)
 
+-- the sign between a base and its digits
 abbrev pub is_hash : ℕ → Bool
 is_hash b = b == 35
 

@@ -9,6 +9,7 @@ use Rattle.ps_scan.specs.Characters.{is_white}
 unfoldable pub string_limit : ℕ
 string_limit = 65535
 
+-- an octal digit
 abbrev pub is_octal : ℕ → Bool
 is_octal b = nat_le 48 b && nat_le b 55
 
@@ -16,6 +17,7 @@ is_octal b = nat_le 48 b && nat_le b 55
 abbrev pub octal_length : List ℕ → ℕ
 octal_length bs = min 3 (prefix_len is_octal bs)
 
+-- a line feed in front
 abbrev pub begins_with_feed : List ℕ → Bool
 begins_with_feed [] = false
 begins_with_feed (b ∷ bs) = b == 10
@@ -75,6 +77,7 @@ string_body depth zero (b ∷ bs) =
     if depth == 0 && b == 41 then Some ([], 1)
     else onto (piece_byte (b ∷ bs)) (string_body (depth_after b depth) (piece_length (b ∷ bs) - 1) bs)
 
+-- a hexadecimal digit
 abbrev pub is_hex_digit : ℕ → Bool
 is_hex_digit b = nat_lt (digit_value b) 16
 
@@ -88,5 +91,6 @@ pairs [] = []
 pairs (a ∷ []) = (digit_value a * 16) ∷ []
 pairs (a ∷ b ∷ ds) = (digit_value a * 16 + digit_value b) ∷ pairs ds
 
+-- two digits make a byte; white space between them counts for nothing
 unfoldable pub hex_bytes : List ℕ → List ℕ
 hex_bytes bs = pairs (filter is_hex_digit bs)

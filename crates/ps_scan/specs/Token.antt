@@ -21,10 +21,12 @@ abbrev pub scan_of : Result Token ErrorName → ℕ → Scan
 scan_of (Ok found) next = scan.Token found next
 scan_of (Err error) next = scan.Bad error next
 
+-- an integer in range
 abbrev pub integer_token : Option ℤ → Result Token ErrorName
 integer_token (Some z) = Ok (token.Integer z)
 integer_token None = Err LimitCheck
 
+-- a real in range
 abbrev pub real_token : Result Real Undefined → Result Token ErrorName
 real_token (Ok real) = Ok (token.Real real)
 real_token (Err undefined) = Err LimitCheck
@@ -34,6 +36,7 @@ abbrev pub number_token : Option ℤ → List ℕ → Result Token ErrorName
 number_token (Some z) row = Ok (token.Integer z)
 number_token None row = real_token (real_value row)
 
+-- a name, by the characters in front of it
 abbrev pub named : NameKind → List ℕ → Token
 named kind.Plain name = token.Exec name
 named kind.Literal name = token.Literal name
@@ -72,6 +75,7 @@ slash_at place (b ∷ bs) = if b == 47 then name_at kind.Immediate (place + 1) b
 abbrev pub string_token : List ℕ → Result Token ErrorName
 string_token bytes = if nat_le (length bytes) string_limit then Ok (token.Str bytes) else Err LimitCheck
 
+-- a string in parentheses, where its end was found
 abbrev pub body_token : ℕ → ℕ → Option (List ℕ × ℕ) → Scan
 body_token place end None = scan.Bad SyntaxError end
 body_token place end (Some body) = scan_of (string_token body.0) (place + body.1)
@@ -85,6 +89,7 @@ abbrev pub hex_token : List ℕ → ℕ → List ℕ → Scan
 hex_token digits place [] = scan.Bad SyntaxError place
 hex_token digits place (b ∷ bs) = if b == 62 then scan_of (string_token (hex_bytes digits)) (place + 1) else scan.Bad SyntaxError (place + 1)
 
+-- the string of hexadecimal digits behind an angle bracket
 unfoldable pub hex_at : ℕ → List ℕ → Scan
 hex_at place text = let n = prefix_len is_hex text in hex_token (take n text) (place + n) (drop n text)
 

@@ -153,7 +153,8 @@ impl Limited {
 
     fn push(&mut self, byte: u8) -> Result<(), NoMemory>
         requires { self.old.length < 2 ^ 63 }
-        ensures keeps { OnOk result ((bytes : List ℕ) → Keeps self.old bytes → Keeps self.new (bytes ++ byte ∷ [])) }
+        ensures keeps { OnOk result ((bytes : List ℕ) →
+            Keeps self.old bytes → Keeps self.new (bytes ++ byte ∷ [])) }
         ensures length { OnOk result (self.new.length ≡ self.old.length + 1) }
     {
         if self.length >= STRING_LIMIT {
@@ -168,7 +169,8 @@ impl Limited {
     /// Puts the byte of a piece, if any, behind the others.
     fn push_piece(&mut self, byte: Option<u8>) -> Result<(), NoMemory>
         requires { self.old.length < 2 ^ 63 }
-        ensures keeps { OnOk result ((bytes : List ℕ) → Keeps self.old bytes → Keeps self.new (bytes ++ option_to_list byte)) }
+        ensures keeps { OnOk result ((bytes : List ℕ) →
+            Keeps self.old bytes → Keeps self.new (bytes ++ option_to_list byte)) }
         ensures length { OnOk result (self.new.length ≤ self.old.length + 1) }
     {
         if let Some(byte) = byte {

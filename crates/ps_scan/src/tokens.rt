@@ -75,7 +75,9 @@ pub fn next(alloc: Global, text: &[u8], pos: u64) -> Result<Scan, NoMemory>
 
 /// A printed integer followed by white space is scanned back, and the white space that ends it is taken.
 pub fn printed_integers_scan()
-    ensures { (z : ℤ) (white place : ℕ) (text rest : List ℕ) → neg_ℤ (pos (2 ^ 31)) ≤ℤ z → z <ℤ pos (2 ^ 31) → is_white white ≡ true →
+    ensures { (z : ℤ) (white place : ℕ) (text rest : List ℕ) →
+        neg_ℤ (pos (2 ^ 31)) ≤ℤ z → z <ℤ pos (2 ^ 31) → is_white white ≡ true →
         drop place text ≡ signed_decimal z ++ (white ∷ rest) →
-        token_at text place ≡ Scan.Token (Token.Integer z) (place + length (signed_decimal z) + closing (white ∷ rest)) }
+        token_at text place ≡ Scan.Token (Token.Integer z)
+        (place + length (signed_decimal z) + closing (white ∷ rest)) }
 {}

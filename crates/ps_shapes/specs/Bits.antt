@@ -12,6 +12,10 @@ pub record IsFilled (old new : List ℕ) (first past : ℕ) (ink : Bool) : Type 
   pub size : length new ≡ length old
   pub bits : (n : ℕ) → n < 8 * length old → bit new n ≡ (if nat_le first n && nat_lt n past then ink else bit old n)
 
+-- the bits of a byte from `first` up to `past` are `ink`, and the others those of another byte
+abbrev pub IsInked : (old new : ℕ) → (first past : ℕ) → (ink : Bool) → Type 0
+IsInked old new first past ink = (k : ℕ) → k < 8 → nat_eq (bit_at new (7 - k)) 1 ≡ (if nat_le first k && nat_lt k past then ink else nat_eq (bit_at old (7 - k)) 1)
+
 -- how many bytes a row takes
 abbrev pub stride_of : ℕ → ℕ
 stride_of width = (width + 7) / 8

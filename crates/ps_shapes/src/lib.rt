@@ -11,7 +11,7 @@ mod span;
 mod thresholds;
 
 pub use clip::{Clip, Clips};
-pub use numbers::{Matrix, Real};
+pub use numbers::{Matrix, ONE, Real};
 pub use paper::Paper;
 pub use path::{DevicePoint, Path, Segment};
 pub use polygon::{Point, Polygon, Polygons, Rule};

@@ -1,5 +1,8 @@
 //! Reals and matrices.
 
+/// The count of the real number 1.
+pub const ONE: i64 = 1 << 24;
+
 /// A real number, as a count of 2^-24.
 #[derive(Clone, Copy, Debug, PartialEq, Eq, PartialOrd, Ord)]
 pub struct Real {

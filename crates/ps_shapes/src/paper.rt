@@ -1,7 +1,7 @@
 //! The paper of a page.
 ghost use Rattle.std.specs.Prelude.{◌≡◌, ◌+◌, ◌-◌, ◌*◌, ◌^◌, ◌<◌, ◌≤◌, ◌&&◌, ℕ, length, slice_index, false, nat_eq, nat_le, nat_lt, if◌then◌else◌, IfOk, IsTrue, ◌↔◌, All};
 ghost use Rattle.std.specs.Int.{bit_at};
-ghost use Rattle.ps_shapes.specs.Bits.{bit, IsBytes, IsFilled, IsPacked};
+ghost use Rattle.ps_shapes.specs.Bits.{IsBytes, IsFilled, IsInked, IsPacked};
 ghost use Rattle.ps_shapes.specs.Picture.{picture_bytes};
 ghost use Rattle.ps_shapes.specs.Sheet.{drawn, pixel, repainted, IsWhole};
 ghost use Rattle.ps_shapes.specs.Span.{holds};
@@ -206,7 +206,7 @@ fn fill_byte(bytes: &mut [u8], at: usize, first: usize, past: usize, ink: bool)
 fn filled(byte: u8, first: usize, past: usize, ink: bool) -> u8
     requires first { first ≤ past }
     requires past { past ≤ 8 }
-    ensures { (k : ℕ) → k < 8 → nat_eq (bit_at result (7 - k)) 1 ≡ (if nat_le first k && nat_lt k past then ink else nat_eq (bit_at byte (7 - k)) 1) }
+    ensures { IsInked byte result first past ink }
 {
     let mask = mask(first, past);
     if ink { byte | mask } else { byte & !mask }

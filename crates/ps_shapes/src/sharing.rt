@@ -1,8 +1,7 @@
 //! What may go to other threads.
 
 use crate::{Clips, Paper, Path, Polygons, SpansList, Thresholds};
-
-fn may_be_shared<T: Send + Sync>(_value: &T) {}
+use copy_lists::may_be_shared;
 
 /// Each of these, and so each of their parts, may be sent to and shared between threads.
 pub fn pictures_may_be_shared(

@@ -1,6 +1,6 @@
 //! Halftone thresholds.
 ghost use Rattle.std.specs.Prelude.{◌≡◌, ◌*◌, ◌<◌, [], length, IfOk, IsTrue, ◌↔◌};
-ghost use Rattle.ps_shapes.specs.Screen.{IsScreen};
+ghost use Rattle.ps_shapes.specs.Screen.{IsScreen, screen};
 
 use copy_lists::NoMemory;
 use std::alloc::Global;
@@ -15,18 +15,18 @@ pub struct Thresholds {
 }
 
 impl Model for Thresholds {
-    ghost use Rattle.ps_shapes.specs.Screen.{Screen, IsScreen};
+    ghost use Rattle.ps_shapes.specs.Screen.{Screen, IsScreen, screen};
 
     ghost Value = { Screen };
 
-    ghost view = { λ t. record { width = t.width; height = t.height; bytes = t.bytes.items } };
+    ghost view = { λ t. screen t.width t.height t.bytes.items };
 
-    ghost invariant = { λ t. IsScreen (record { width = t.width; height = t.height; bytes = t.bytes.items }) };
+    ghost invariant = { λ t. IsScreen (screen t.width t.height t.bytes.items) };
 }
 
 impl Thresholds {
     pub fn none(alloc: Global) -> Thresholds
-        ensures { result ≡ record { width = 0; height = 0; bytes = [] } }
+        ensures { result ≡ screen 0 0 [] }
     {
         Thresholds {
             width: 0,
@@ -39,7 +39,7 @@ impl Thresholds {
         requires width { 0 < width }
         requires height { 0 < height }
         requires size { length bytes.now ≡ width * height }
-        ensures { IfOk result (λ t. t ≡ record { width = width; height = height; bytes = bytes.now }) }
+        ensures { IfOk result (λ t. t ≡ screen width height bytes.now) }
     {
         Ok(Thresholds {
             width,
@@ -69,7 +69,7 @@ impl Thresholds {
 
     /// Whether there are no thresholds.
     pub fn is_none(&self) -> bool
-        ensures { IsTrue result ↔ (self.now ≡ record { width = 0; height = 0; bytes = [] }) }
+        ensures { IsTrue result ↔ (self.now ≡ screen 0 0 []) }
     {
         self.width == 0
     }

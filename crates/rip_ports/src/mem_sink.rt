@@ -63,9 +63,11 @@ impl Sink for MemSink {
 
     fn put(&mut self, bytes: &[u8]) -> Result<(), Failed>
         ensures counted { self.old.calls.faults ≤ self.new.calls.faults }
-        ensures cut { OnErr result (AppendsFront bytes.now (Some self.old.bytes) (Some self.new.bytes)) }
+        ensures cut { OnErr result
+            (AppendsFront bytes.now (Some self.old.bytes) (Some self.new.bytes)) }
 
-        ensures cause { IsErr result ↔ (IsNextListed self.old.calls ⊎ IsTooLong bytes.now self.old) }
+        ensures cause { IsErr result ↔
+            (IsNextListed self.old.calls ⊎ IsTooLong bytes.now self.old) }
         ensures whole { OnOk result (self.new ≡ record self.old {
           bytes = self.old.bytes ++ bytes.now;
           calls = after_success self.old.calls;
@@ -76,7 +78,8 @@ impl Sink for MemSink {
         }) }
         ensures half { IsNextListed self.old.calls →
             self.new.bytes ≡ self.old.bytes ++ half_kept bytes.now self.old }
-        ensures none { ¬ IsNextListed self.old.calls → OnErr result (self.new.bytes ≡ self.old.bytes) }
+        ensures none { ¬ IsNextListed self.old.calls →
+            OnErr result (self.new.bytes ≡ self.old.bytes) }
     {
         let room = self.room - self.bytes.len();
         if self.calls.count_call() {

@@ -20,7 +20,8 @@ impl Model for MemSource {
 
     ghost Value = { SourceInMemory };
 
-    ghost view = { λ s. record { rest = drop s.given s.bytes.items; step = s.step; calls = s.calls } };
+    ghost view = { λ s.
+        record { rest = drop s.given s.bytes.items; step = s.step; calls = s.calls } };
 
     ghost invariant = { λ s. (s.given ≤ vec_len s.bytes) × (1 ≤ s.step) };
 }
@@ -66,7 +67,8 @@ impl Source for MemSource {
           rest = drop n self.old.rest;
           calls = after_success self.old.calls;
         }) }
-        ensures err { OnErr result (self.new ≡ record self.old { calls = after_fault self.old.calls }) }
+        ensures err { OnErr result
+            (self.new ≡ record self.old { calls = after_fault self.old.calls }) }
         ensures untouched { OnErr result (into.new ≡ into.old) }
     {
         if self.calls.count_call() {

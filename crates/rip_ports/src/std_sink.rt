@@ -51,7 +51,8 @@ impl<W: Write> StdSink<W> {
         ensures some { IfOk result (λ n. 0 < n) }
         ensures within { IfOk result (λ n. n ≤ length piece.now) }
         ensures failed { OnErr result (HasRisen self.old.faults self.new.faults) }
-        ensures passed { WriteAppends (W.contents self.old.device) (W.contents self.new.device) result piece.now }
+        ensures passed { WriteAppends
+            (W.contents self.old.device) (W.contents self.new.device) result piece.now }
     {
         for _ in 0..u64::MAX {
             match self.writer.write(piece) {
@@ -101,9 +102,11 @@ impl<W: Write> Sink for StdSink<W> {
     fn put(&mut self, bytes: &[u8]) -> Result<(), Failed>
         ensures counted { self.old.faults ≤ self.new.faults }
         ensures failed { OnErr result (HasRisen self.old.faults self.new.faults) }
-        ensures passed { OnOk result (Appends (W.contents self.old.device) (W.contents self.new.device) bytes.now) }
+        ensures passed { OnOk result
+            (Appends (W.contents self.old.device) (W.contents self.new.device) bytes.now) }
         ensures cut { OnErr result ((n : ℕ) × (n ≤ length bytes.now)
-            × Appends (W.contents self.old.device) (W.contents self.new.device) (take n bytes.now)) }
+            × Appends (W.contents self.old.device) (W.contents self.new.device)
+            (take n bytes.now)) }
     {
         let mut done = 0;
         while done < bytes.len() {

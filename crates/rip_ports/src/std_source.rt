@@ -43,7 +43,8 @@ impl<R: Read> Source for StdSource<R> {
         ensures counted { self.old.faults ≤ self.new.faults }
         ensures within { IfOk result (λ n. n ≤ length into.old) }
         ensures failed { OnErr result (HasRisen self.old.faults self.new.faults) }
-        ensures passed { ReadConsumes (R.remaining self.old.device) (R.remaining self.new.device) result into.new }
+        ensures passed { ReadConsumes
+            (R.remaining self.old.device) (R.remaining self.new.device) result into.new }
     {
         for _ in 0..u64::MAX {
             match self.reader.read(into) {

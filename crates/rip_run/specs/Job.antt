@@ -25,6 +25,7 @@ pub record JobResult : Type 0 where
 abbrev pub told : List ℕ → Status → JobResult
 told text answer = record { pages = []; back = text; status = answer }
 
+-- a sum or difference left 32 bits
 abbrev pub is_overflow : Ending → Bool
 is_overflow Overflows = true
 is_overflow _ = false
@@ -61,6 +62,7 @@ prolog_text job (prolog ∷ _) = text_of job prolog
 abbrev pub plain_result : List ℕ → JobResult
 plain_result text = if is_not_yet text then told not_yet_line status.NotYet else result_of_run (run_of text)
 
+-- what a command makes of the sections of a job
 abbrev pub result_of_sections : Command → List ℕ → List Section → JobResult
 result_of_sections Plain job sections = plain_result (prolog_text job sections)
 result_of_sections Split job sections = told (flat_map section_line sections) (status.Done 0)
@@ -80,9 +82,11 @@ result_of_read command job =
 abbrev pub is_too_large : List ℕ → Bool
 is_too_large job = nat_lt 268435456 (length job)
 
+-- what a command makes of a job of any length
 abbrev pub result_of_command : Command → List ℕ → JobResult
 result_of_command command job = if is_too_large job then told too_large_line status.TooLarge else result_of_read command job
 
+-- what the words make of a job
 abbrev pub result_of_words : Option Command → List ℕ → JobResult
 result_of_words None job = told usage_line status.Usage
 result_of_words (Some command) job = result_of_command command job

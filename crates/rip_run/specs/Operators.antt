@@ -3,11 +3,13 @@ use Rattle.std.specs.Prelude.{◌≡◌, ◌<◌, ◌&&◌, ℕ, ℤ, pos, negsu
 use Rattle.std.specs.Cmp.Lexicographic.{pointwise}
 use Rattle.ps_names.specs.declared.error_name.ErrorName.{ErrorName}
 use Rattle.ps_names.specs.declared.error_name.ErrorName.TheVariants.{StackOverflow, StackUnderflow}
+use Rattle.ps_objects.specs.declared.objects.TheConstants.{OPERAND_LIMIT}
 use Rattle.rip_run.specs.declared.operator.Operator.{Operator}
 use Rattle.rip_run.specs.declared.operator.Operator.TheVariants as operator
 use Rattle.rip_run.specs.declared.operator.Effect.{Effect}
 use Rattle.rip_run.specs.declared.operator.Effect.TheVariants as effect
 
+-- byte by byte the same
 abbrev pub is_same_text : List ℕ → List ℕ → Bool
 is_same_text = pointwise nat_eq
 
@@ -32,10 +34,15 @@ pub record Outcome : Type 0 where
 abbrev pub in_range : ℤ → Option ℤ
 in_range n = if int_le (negsuc 2147483647) n && int_le n (pos 2147483647) then Some n else None
 
--- at most 5,000 operands
+-- as many operands as there may be
 abbrev pub is_full : List ℤ → Bool
-is_full stack = nat_le 5000 (length stack)
+is_full stack = nat_le OPERAND_LIMIT (length stack)
 
+-- an effect that leaves this stack
+abbrev pub leaving : Effect → List ℤ → Outcome
+leaving effect stack = record { effect = effect; stack = stack }
+
+-- the section goes on with this stack
 abbrev pub goes : List ℤ → Outcome
 goes stack = record { effect = effect.Goes; stack = stack }
 
@@ -48,6 +55,7 @@ abbrev pub leaves : Option ℤ → List ℤ → Outcome
 leaves (Some n) below = goes (n ∷ below)
 leaves None below = record { effect = effect.Overflows; stack = below }
 
+-- what an operator does to the stack, the newest number first
 abbrev pub effect_of : Operator → List ℤ → Outcome
 effect_of operator.Add (b ∷ a ∷ below) = leaves (in_range (a +ℤ b)) below
 effect_of operator.Sub (b ∷ a ∷ below) = leaves (in_range (a -ℤ b)) below

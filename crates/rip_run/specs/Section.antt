@@ -37,9 +37,11 @@ pub record Step : Type 0 where
   pub stack : List ℤ
   pub ending : Option Ending
 
+-- the section goes on with this stack
 abbrev pub goes_on : List ℤ → Step
 goes_on stack = record { said = []; stack = stack; ending = None }
 
+-- the section ends
 abbrev pub ends : Ending → List ℤ → Step
 ends e stack = record { said = []; stack = stack; ending = Some e }
 
@@ -51,10 +53,12 @@ number_line n = signed_decimal n ++ 10 ∷ []
 abbrev pub has_room : ℕ → List ℕ → Bool
 has_room told text = nat_le (told + length text) 16777216
 
+-- a number is printed where the messages have room for its line
 abbrev pub prints : Bool → List ℕ → ℤ → List ℤ → Step
 prints true name n stack = record { said = number_line n; stack = stack; ending = None }
 prints false name n stack = ends (ending.Stopped LimitCheck (Some name)) (n ∷ stack)
 
+-- a step by the effect of its operator
 abbrev pub after_operator : List ℕ → Effect → List ℤ → ℕ → Step
 after_operator name effect.Goes stack told = goes_on stack
 after_operator name (effect.Prints n) stack told = prints (has_room told (number_line n)) name n stack
@@ -62,10 +66,12 @@ after_operator name (effect.Fails e) stack told = ends (ending.Stopped e (Some n
 after_operator name effect.Quits stack told = ends ending.Quit stack
 after_operator name effect.Overflows stack told = ends ending.Overflows stack
 
+-- the step of a name, which is that of an operator or undefined
 abbrev pub step_of_name : List ℕ → Option Operator → List ℤ → ℕ → Step
 step_of_name name None stack told = ends (ending.Stopped Undefined (Some name)) stack
 step_of_name name (Some op) stack told = let outcome = effect_of op stack in after_operator name outcome.effect outcome.stack told
 
+-- a number is pushed where the stack has room
 abbrev pub step_of_number : ℤ → List ℤ → Step
 step_of_number n stack = if is_full stack then ends (ending.Stopped StackOverflow (Some (signed_decimal n))) stack else goes_on (n ∷ stack)
 
@@ -77,9 +83,11 @@ step_of (token.Exec name) stack told = step_of_name name (operator_named name) s
 step_of token.BodyEnd stack told = ends (ending.Stopped SyntaxError None) stack
 step_of _ stack told = goes_on stack
 
+-- a run that printed more before
 abbrev pub says : List ℕ → Run → Run
 says text run = record run { said = text ++ run.said }
 
+-- the rest of a run, where a step does not end it
 abbrev pub after_step : Option Ending → Run → Run
 after_step None rest = rest
 after_step (Some e) rest = record { said = []; ending = e }

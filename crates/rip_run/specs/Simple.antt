@@ -3,6 +3,7 @@ use Rattle.std.specs.Prelude.{◌≡◌, ℕ, Bool, true, false, not, ◌&&◌, 
 use Rattle.std.specs.List.{list_all, list_any, slice_split, starts_with}
 use Rattle.ps_names.specs.declared.error_name.ErrorName.TheVariants.{SyntaxError}
 use Rattle.ps_names.specs.declared.op.TheConstants.{NAME_LIMIT}
+use Rattle.dsc_split.specs.Sections.{begins_with_header, is_control_d}
 use Rattle.ps_scan.specs.Characters.{is_line_end, is_special, is_delimiter}
 use Rattle.ps_scan.specs.Numbers.{is_integer, integer_value, is_decimal, is_radix}
 use Rattle.ps_scan.specs.declared.tokens.Token.{Token}
@@ -25,7 +26,7 @@ is_plain_byte b = not (is_special b) || b == 41 || b == 125
 -- an integer within its range, or a name of at most 127 bytes, without the byte that ends a job
 unfoldable pub is_plain_row : List ℕ → Bool
 is_plain_row row =
-    not (list_any (λ b. b == 4) row) && nat_le (length row) NAME_LIMIT
+    not (list_any is_control_d row) && nat_le (length row) NAME_LIMIT
     && (if is_integer row then is_some (integer_value row) else not (is_decimal row || is_radix row))
 
 -- outside comments there are plain bytes and plain rows alone
@@ -35,7 +36,7 @@ is_plain text =
 
 -- a plain text that does not begin as one with document structure
 unfoldable pub is_simple : List ℕ → Bool
-is_simple text = not (starts_with nat_eq text (codes "%!PS-Adobe-")) && is_plain text
+is_simple text = not (begins_with_header text) && is_plain text
 
 -- an integer, an executable name or }
 abbrev pub IsPlainToken : Token → Type 0

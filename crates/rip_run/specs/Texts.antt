@@ -4,18 +4,23 @@ use Rattle.std.specs.Fmt.{decimal}
 use Rattle.dsc_split.specs.Sections.{section_text}
 use Rattle.dsc_split.specs.declared.section.Section.{Section}
 
+-- the refusal of words
 abbrev pub usage_line : List ℕ
 usage_line = codes "%%[ usage: rip_main render, plain, spec, split or sample ]%%\n"
 
+-- the refusal of what is not interpreted yet
 abbrev pub not_yet_line : List ℕ
 not_yet_line = codes "%%[ job refused: not yet ]%%\n"
 
+-- the refusal of a job by its bytes
 abbrev pub too_large_line : List ℕ
 too_large_line = codes "%%[ job refused: too large ]%%\n"
 
+-- the refusal of a job by its pages
 abbrev pub too_many_line : ℕ → List ℕ
 too_many_line count = codes "%%[ job refused: " ++ decimal count ++ codes " pages ]%%\n"
 
+-- the line behind the report of an error
 abbrev pub flushing_line : List ℕ
 flushing_line = codes "%%[ Flushing: rest of job (to end-of-file) will be ignored ]%%\n"
 

@@ -16,13 +16,13 @@ use crate::simple_texts::simple;
 use crate::status::Status;
 use crate::texts::{close, end_line, not_yet_line, refuse_pages, report, too_large_line};
 use crate::word::Command;
-use dsc_split::{Section, Sections, SplitError, split};
 use copy_lists::{NoMemory, Text};
+use dsc_split::{Section, Sections, SplitError, split};
 use rip_ports::{Failed, Sink, Source};
 use std::alloc::Global;
 
 /// The most bytes of a job.
-const MAX_BYTES: usize = 268_435_456;
+pub(crate) const MAX_BYTES: usize = 268_435_456;
 
 /// Reads the job and writes the command's result on the back channel.
 #[tactic(auto, using(crate::proofs::Answering::of_too_large, crate::proofs::Answering::of_read, crate::proofs::Answering::nothing_appended, crate::proofs::Sinks::read_back))]
@@ -32,8 +32,10 @@ pub(crate) fn answer<S: Source, B: Sink>(
     source: &mut S,
     back: &mut B,
 ) -> Status
-    ensures status { IfSome (S.left source.old) (λ job. IsDefined result → result ≡ (result_of_command command job).status) }
-    ensures back { IfSome (S.left source.old) (λ job. Writes result (result_of_command command job).back (B.holds back.old) (B.holds back.new)) }
+    ensures status { IfSome (S.left source.old) (λ job.
+        IsDefined result → result ≡ (result_of_command command job).status) }
+    ensures back { IfSome (S.left source.old) (λ job.
+        Writes result (result_of_command command job).back (B.holds back.old) (B.holds back.new)) }
     ensures read { IsAfterReading result → IsAtEnd (S.left source.new) }
     ensures read_fault { result ≡ ReadFault → HasRisen (S.faults source.old) (S.faults source.new) }
     ensures write_fault { result ≡ WriteFault → HasRisen (B.faults back.old) (B.faults back.new) }
@@ -50,9 +52,10 @@ pub(crate) fn answer<S: Source, B: Sink>(
 /// Writes the result for a job that is no larger than a job may be.
 #[tactic(auto, using(crate::proofs::Answering::nothing_appended))]
 fn answer_job<B: Sink>(alloc: Global, command: Command, job: &[u8], back: &mut B) -> Status
-    requires { length job.now ≤ 268435456 }
+    requires { length job.now ≤ MAX_BYTES }
     ensures status { IsDefined result → result ≡ (result_of_read command job.now).status }
-    ensures back { Writes result (result_of_read command job.now).back (B.holds back.old) (B.holds back.new) }
+    ensures back { Writes result (result_of_read command job.now).back
+        (B.holds back.old) (B.holds back.new) }
     ensures write_fault { result ≡ WriteFault → HasRisen (B.faults back.old) (B.faults back.new) }
     ensures read_fault { result ≢ ReadFault }
     ensures words { result ≢ Usage }
@@ -73,9 +76,10 @@ struct Reply {
 /// The answer to a job that is no larger than a job may be.
 #[tactic(auto, using(crate::proofs::Answering::of_too_many, crate::proofs::Answering::of_sections))]
 fn make_answer(alloc: Global, command: Command, job: &[u8]) -> Result<Reply, NoMemory>
-    requires { length job.now ≤ 268435456 }
+    requires { length job.now ≤ MAX_BYTES }
     ensures text { IfOk result (λ answer. answer.text ≡ (result_of_read command job.now).back) }
-    ensures status { IfOk result (λ answer. answer.status ≡ (result_of_read command job.now).status) }
+    ensures status { IfOk result (λ answer.
+        answer.status ≡ (result_of_read command job.now).status) }
     ensures defined { IfOk result (λ answer. IsDefined answer.status) }
     ensures words { IfOk result (λ answer. answer.status ≢ Usage) }
 {

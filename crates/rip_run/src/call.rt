@@ -10,10 +10,11 @@ ghost use Rattle.rip_run.specs.declared.status.Status.TheVariants.{ReadFault, To
 ghost use Rattle.rip_run.specs.declared.word.Command.{Command};
 ghost use Rattle.dsc_split.specs.Sections.{page_count, sections_of};
 
-use crate::answer::{answer, write};
+use crate::answer::{MAX_BYTES, answer, write};
 use crate::status::Status;
 use crate::texts::usage_line;
 use crate::word::{Word, command_of};
+use dsc_split::MAX_PAGES;
 use rip_ports::{Sink, Source};
 use std::alloc::Global;
 
@@ -32,34 +33,43 @@ pub fn rip_plain<S: Source, P: Sink, B: Sink>(
     back: &mut B,
 ) -> Status
     // The answer and what is written are the result of the job that the source had, but for faults and want of memory.
-    ensures status { IfSome (S.left source.old) (λ job. IsDefined result → result ≡ (job_result words.now moment job).status) }
+    ensures status { IfSome (S.left source.old) (λ job.
+        IsDefined result → result ≡ (job_result words.now moment job).status) }
     ensures pages { IfSome (S.left source.old) (λ job.
-        Writes result (job_result words.now moment job).pages (P.holds pages.old) (P.holds pages.new)) }
+        Writes result (job_result words.now moment job).pages
+        (P.holds pages.old) (P.holds pages.new)) }
     ensures back { IfSome (S.left source.old) (λ job.
-        Writes result (job_result words.now moment job).back (B.holds back.old) (B.holds back.new)) }
+        Writes result (job_result words.now moment job).back
+        (B.holds back.old) (B.holds back.new)) }
 
     // A job that was run, or refused for its pages or as not interpreted yet, was read to its end.
     ensures read { IsAfterReading result → IsAtEnd (S.left source.new) }
 
     // Words outside the grammar are refused before anything is read, and no others are.
-    ensures usage { result ≡ Usage → IsNone (command_of words.now) × (source.new ≡ source.old) × (pages.new ≡ pages.old)
+    ensures usage { result ≡ Usage →
+        IsNone (command_of words.now) × (source.new ≡ source.old) × (pages.new ≡ pages.old)
         × Appends usage_line (B.holds back.old) (B.holds back.new) }
     ensures words { IsNone (command_of words.now) → IsRefusal result }
 
     // A job is refused for its size or its pages where it has too many.
-    ensures too_large { result ≡ TooLarge → IfSome (S.left source.old) (λ job. 268435456 < length job) }
-    ensures too_many { (count : ℕ) → result ≡ TooManyPages count → IfSome (S.left source.old) (λ job.
-        (count ≡ page_count (sections_of job)) × (100000 < count)) }
+    ensures too_large { result ≡ TooLarge →
+        IfSome (S.left source.old) (λ job. MAX_BYTES < length job) }
+    ensures too_many { (count : ℕ) → result ≡ TooManyPages count →
+        IfSome (S.left source.old) (λ job.
+        (count ≡ page_count (sections_of job)) × (MAX_PAGES < count)) }
 
     // A fault is answered only where one rose in this call.
     ensures read_fault { result ≡ ReadFault → HasRisen (S.faults source.old) (S.faults source.new) }
     ensures write_fault { result ≡ WriteFault →
-        HasRisen (P.faults pages.old) (P.faults pages.new) ⊎ HasRisen (B.faults back.old) (B.faults back.new) }
+        HasRisen (P.faults pages.old) (P.faults pages.new) ⊎
+        HasRisen (B.faults back.old) (B.faults back.new) }
 
     // Words in the grammar, a job that is not refused and no fault that rose: the job is run, or memory runs out.
-    ensures complete { (command : Command) (job : List ℕ) → command_of words.now ≡ Some command → S.left source.old ≡ Some job →
+    ensures complete { (command : Command) (job : List ℕ) →
+        command_of words.now ≡ Some command → S.left source.old ≡ Some job →
         is_refused command job ≡ false →
-        ¬ HasRisen (S.faults source.old) (S.faults source.new) → ¬ HasRisen (P.faults pages.old) (P.faults pages.new) →
+        ¬ HasRisen (S.faults source.old) (S.faults source.new) →
+        ¬ HasRisen (P.faults pages.old) (P.faults pages.new) →
         ¬ HasRisen (B.faults back.old) (B.faults back.new) → IsRunOrWanting result }
 {
     match command_of(words) {

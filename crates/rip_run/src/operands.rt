@@ -1,13 +1,12 @@
 //! The operand stack of whole numbers.
-ghost use Rattle.std.specs.Prelude.{◌≡◌, [], ◌∷◌, OnOk, MatchOption};
+ghost use Rattle.std.specs.Prelude.{◌≡◌, [], ◌∷◌, OnOk};
 ghost use Rattle.rip_run.specs.Operators.{is_full};
+ghost use Rattle.copy_lists.specs.Stacks.{Pops};
 
 use copy_lists::NoMemory;
+use ps_objects::OPERAND_LIMIT;
 use std::alloc::Global;
 use std::marker::Model;
-
-/// The most operands.
-const STACK_LIMIT: usize = 5000;
 
 /// A stack of whole numbers, seen with the newest first.
 #[derive(Drop)]
@@ -36,7 +35,7 @@ impl Operands {
     pub(crate) fn is_full(&self) -> bool
         ensures { result ≡ is_full self.now }
     {
-        self.numbers.len() >= STACK_LIMIT
+        self.numbers.len() >= OPERAND_LIMIT
     }
 
     pub(crate) fn push(&mut self, number: i32) -> Result<(), NoMemory>
@@ -48,7 +47,7 @@ impl Operands {
 
     /// Takes away the newest.
     pub(crate) fn pop(&mut self) -> Option<i32>
-        ensures { MatchOption result ((self.old ≡ []) × (self.new ≡ [])) (λ n. self.old ≡ n ∷ self.new) }
+        ensures { Pops self.old self.new result }
     {
         self.numbers.pop()
     }

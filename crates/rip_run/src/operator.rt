@@ -1,6 +1,6 @@
 //! The operators on whole numbers.
 ghost use Rattle.std.specs.Prelude.{◌≡◌, IfOk};
-ghost use Rattle.rip_run.specs.Operators.{operator_named, effect_of, leaves, TakesTwo};
+ghost use Rattle.rip_run.specs.Operators.{operator_named, effect_of, leaves, TakesTwo, leaving};
 ghost use Rattle.rip_run.specs.declared.operator.Operator.TheVariants.{Add, Sub, Pop, Dup, Exch, Print};
 
 use crate::operands::Operands;
@@ -55,7 +55,7 @@ impl Operator {
 
     /// Does the operator on the stack. After a refusal the stack is as it was.
     pub(crate) fn apply(self, stack: &mut Operands) -> Result<Effect, NoMemory>
-        ensures { IfOk result (λ effect. effect_of self stack.old ≡ record { effect = effect; stack = stack.new }) }
+        ensures { IfOk result (λ effect. effect_of self stack.old ≡ leaving effect stack.new) }
     {
         match self {
             Operator::Add => add(stack),
@@ -72,7 +72,7 @@ impl Operator {
 const UNDERFLOW: Effect = Effect::Fails(ErrorName::StackUnderflow);
 
 fn add(stack: &mut Operands) -> Result<Effect, NoMemory>
-    ensures { IfOk result (λ effect. effect_of Add stack.old ≡ record { effect = effect; stack = stack.new }) }
+    ensures { IfOk result (λ effect. effect_of Add stack.old ≡ leaving effect stack.new) }
 {
     match pop_two(stack)? {
         Some((a, b)) => push_sum(stack, a.checked_add(b)),
@@ -81,7 +81,7 @@ fn add(stack: &mut Operands) -> Result<Effect, NoMemory>
 }
 
 fn sub(stack: &mut Operands) -> Result<Effect, NoMemory>
-    ensures { IfOk result (λ effect. effect_of Sub stack.old ≡ record { effect = effect; stack = stack.new }) }
+    ensures { IfOk result (λ effect. effect_of Sub stack.old ≡ leaving effect stack.new) }
 {
     match pop_two(stack)? {
         Some((a, b)) => push_sum(stack, a.checked_sub(b)),
@@ -99,7 +99,7 @@ fn pop(stack: &mut Operands) -> Effect
 }
 
 fn dup(stack: &mut Operands) -> Result<Effect, NoMemory>
-    ensures { IfOk result (λ effect. effect_of Dup stack.old ≡ record { effect = effect; stack = stack.new }) }
+    ensures { IfOk result (λ effect. effect_of Dup stack.old ≡ leaving effect stack.new) }
 {
     match stack.pop() {
         Some(a) => {
@@ -115,7 +115,7 @@ fn dup(stack: &mut Operands) -> Result<Effect, NoMemory>
 }
 
 fn exch(stack: &mut Operands) -> Result<Effect, NoMemory>
-    ensures { IfOk result (λ effect. effect_of Exch stack.old ≡ record { effect = effect; stack = stack.new }) }
+    ensures { IfOk result (λ effect. effect_of Exch stack.old ≡ leaving effect stack.new) }
 {
     match pop_two(stack)? {
         Some((a, b)) => {
@@ -154,7 +154,7 @@ fn pop_two(stack: &mut Operands) -> Result<Option<(i32, i32)>, NoMemory>
 
 /// Pushes a sum or difference that has 32 bits.
 fn push_sum(stack: &mut Operands, sum: Option<i32>) -> Result<Effect, NoMemory>
-    ensures { IfOk result (λ effect. leaves sum stack.old ≡ record { effect = effect; stack = stack.new }) }
+    ensures { IfOk result (λ effect. leaves sum stack.old ≡ leaving effect stack.new) }
 {
     match sum {
         Some(n) => {

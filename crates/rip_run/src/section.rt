@@ -7,8 +7,8 @@ ghost use Rattle.rip_run.specs.declared.section.Ending.TheVariants.{Stopped};
 
 use crate::operands::Operands;
 use crate::operator::{Effect, Operator};
-use itoa::Buffer;
 use copy_lists::{NoMemory, Text};
+use itoa::Buffer;
 use ps_objects::ErrorName;
 use ps_scan::{Scan, Token, next};
 use std::alloc::Global;
@@ -74,7 +74,8 @@ fn execute(
     said: &mut Text,
 ) -> Result<Option<Ending>, NoMemory>
     requires { IsPlainToken token }
-    ensures { IfOk result (λ ending. Steps (step_of token stack.old (length said.old)) ending stack.new said.old said.new) }
+    ensures { IfOk result (λ ending.
+        Steps (step_of token stack.old (length said.old)) ending stack.new said.old said.new) }
 {
     match token {
         Token::Integer(n) => push_number(alloc, n, stack),
@@ -106,7 +107,9 @@ fn execute_name(
     stack: &mut Operands,
     said: &mut Text,
 ) -> Result<Option<Ending>, NoMemory>
-    ensures { IfOk result (λ ending. Steps (step_of_name name.now (operator_named name.now) stack.old (length said.old)) ending stack.new said.old said.new) }
+    ensures { IfOk result (λ ending.
+        Steps (step_of_name name.now (operator_named name.now) stack.old (length said.old))
+        ending stack.new said.old said.new) }
 {
     let Some(operator) = Operator::from_name(name) else {
         return Ok(Some(stopped(ErrorName::Undefined, Some(Text::from_bytes(alloc, name)?))));
@@ -130,7 +133,8 @@ fn execute_name(
 #[tactic(auto, using(crate::proofs::Pieces::line_fits, crate::proofs::Pieces::line_exceeds, crate::proofs::Pieces::two_pieces))]
 fn print_line(said: &mut Text, n: i32) -> Result<bool, NoMemory>
     ensures room { IfOk result (λ printed. printed ≡ has_room (length said.old) (number_line n)) }
-    ensures said { IfOk result (λ printed. said.new ≡ (if printed then said.old ++ number_line n else said.old)) }
+    ensures said { IfOk result (λ printed.
+        said.new ≡ (if printed then said.old ++ number_line n else said.old)) }
 {
     let mut buffer = Buffer::new();
     let digits = buffer.format(n).as_bytes();

@@ -1,23 +1,19 @@
 //! Texts of integers and names alone.
 ghost use Rattle.std.specs.Prelude.{◌≡◌, ◌≤◌, ◌||◌, ◌==◌, length, true, IsTrue};
 ghost use Rattle.std.specs.List.{list_any};
+ghost use Rattle.dsc_split.specs.Sections.{is_control_d};
 ghost use Rattle.rip_run.specs.Simple.{is_plain_byte, is_plain_row, is_plain, is_simple};
 
+use dsc_split::{CONTROL_D, begins_with_header};
 use ps_names::NAME_LIMIT;
 use ps_scan::{
     integer_value, is_decimal, is_integer, is_radix, is_special, skip_blanks, split_row,
 };
 
-/// How a text with document structure begins.
-const HEADER: &[u8] = b"%!PS-Adobe-";
-
-/// The byte that ends a job.
-const END_OF_JOB: u8 = 4;
-
 fn has_end_of_job(row: &[u8]) -> bool
-    ensures { result ≡ list_any (λ b. b == 4) row.now }
+    ensures { result ≡ list_any is_control_d row.now }
 {
-    row.iter().any(|byte| *byte == END_OF_JOB)
+    row.iter().any(|byte| *byte == CONTROL_D)
 }
 
 #[tactic(auto, unfolding(crate::specs::Simple::is_plain_row))]
@@ -69,5 +65,5 @@ pub(crate) fn simple(text: &[u8]) -> bool
     ensures simple { result ≡ is_simple text.now }
     ensures plain { IsTrue result → is_plain text.now ≡ true }
 {
-    !text.starts_with(HEADER) && is_plain(text)
+    !begins_with_header(text) && is_plain(text)
 }

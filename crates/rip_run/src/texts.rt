@@ -2,8 +2,8 @@
 ghost use Rattle.std.specs.Prelude.{◌≡◌, ◌++◌, codes, IfOk, OnOk};
 ghost use Rattle.rip_run.specs.Texts.{report_text, usage_line, not_yet_line, too_large_line, too_many_line, line_ended, done_line};
 
-use itoa::Buffer;
 use copy_lists::{NoMemory, Text};
+use itoa::Buffer;
 
 const FLUSHING: &[u8] = b"%%[ Flushing: rest of job (to end-of-file) will be ignored ]%%\n";
 

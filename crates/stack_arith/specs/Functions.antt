@@ -1,7 +1,8 @@
 -- Square roots, sines and arc tangents (section 3.9.2 of the language manual).
 use Rattle.std.specs.Prelude.{ℤ, pos, int_le, if◌then◌else◌, Result, Ok, Err}
 use Rattle.ps_shapes.specs.declared.numbers.Real.{Real}
-use Rattle.ps_fixed.specs.Angles.{sine_of, cosine_of, arc_tangent}
+use Rattle.ps_fixed.specs.Sines.{sine_of, cosine_of}
+use Rattle.ps_fixed.specs.ArcTangents.{arc_tangent}
 use Rattle.ps_fixed.specs.Roots.{root_of}
 use Rattle.ps_names.specs.declared.error_name.ErrorName.{ErrorName}
 use Rattle.ps_names.specs.declared.error_name.ErrorName.TheVariants.{RangeCheck}

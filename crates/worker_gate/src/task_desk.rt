@@ -3,6 +3,7 @@ ghost use Rattle.std.specs.Prelude.{◌≡◌, ℕ, ◌∷◌, [], true, None, i
 ghost use Rattle.commit_desk.specs.State.{after, claim_answer, claim_events, accepts, is_lying, may_commit, commit_events};
 ghost use Rattle.commit_desk.specs.Desk.{state_of, piece_on};
 ghost use Rattle.commit_desk.specs.declared.event.Event.TheVariants.{Finished, Taken};
+ghost use Rattle.worker_gate.specs.After.{after_if};
 
 use commit_desk::{Claim, Desk, PieceSpec};
 use std::marker::{Model, PhantomData};
@@ -23,7 +24,8 @@ impl<T: PieceSpec> Model for TaskDesk<T> {
 
     ghost view = { λ d. state_of d.desk };
 
-    ghost invariant = { λ d. (page : ℕ) (piece : T.Piece) → piece_on d.desk page ≡ Some piece → T.right page piece };
+    ghost invariant = { λ d. (page : ℕ) (piece : T.Piece) →
+        piece_on d.desk page ≡ Some piece → T.right page piece };
 }
 
 impl<T: PieceSpec> TaskDesk<T> {
@@ -50,7 +52,7 @@ impl<T: PieceSpec> TaskDesk<T> {
     pub fn finish(&mut self, page: u32, piece: T::Piece) -> bool
         requires { T.right page piece }
         ensures answer { result ≡ accepts self.old page }
-        ensures events { self.new ≡ (if result then after self.old (Finished page ∷ []) else self.old) }
+        ensures events { self.new ≡ after_if result self.old (Finished page ∷ []) }
     {
         self.desk.finish(page, piece).is_ok()
     }
@@ -59,7 +61,7 @@ impl<T: PieceSpec> TaskDesk<T> {
     pub fn take(&mut self, page: u32) -> Option<T::Piece>
         ensures answer { is_some result ≡ is_lying self.old page }
         ensures right { IfSome result (T.right page) }
-        ensures events { self.new ≡ (if (is_some result) then after self.old (Taken page ∷ []) else self.old) }
+        ensures events { self.new ≡ after_if (is_some result) self.old (Taken page ∷ []) }
     {
         self.desk.take(page)
     }
@@ -67,7 +69,7 @@ impl<T: PieceSpec> TaskDesk<T> {
     /// Tells that so many pages are committed, where `Desk::done` may be told so. Says whether it may.
     pub fn done(&mut self, count: u32) -> bool
         ensures answer { result ≡ may_commit self.old count }
-        ensures events { self.new ≡ (if result then after self.old (commit_events self.old count) else self.old) }
+        ensures events { self.new ≡ after_if result self.old (commit_events self.old count) }
     {
         if count < self.desk.committed() || count > self.desk.claimed() {
             return false;

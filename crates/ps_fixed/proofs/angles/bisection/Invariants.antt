@@ -1,6 +1,6 @@
 -- What is left gives what the whole gives.
 use Rattle.std.proofs.Common.{◌≡◌, ◌⊎◌, true, false, ◌-◌, ◌*◌, ◌<◌, ◌≤◌}
-use Rattle.ps_fixed.specs.Angles.{bisection, is_no_steeper}
+use Rattle.ps_fixed.specs.ArcTangents.{bisection, is_no_steeper}
 use Rattle.ps_fixed.proofs.angles.bisection.Given as goal
 
 abbrev pub invariant-halve : goal.invariant-halve

@@ -1,0 +1,9 @@
+pub mod CodeLemmas
+pub mod DecodedLemmas
+pub mod FoundLemmas
+pub mod GiveLemmas
+pub mod Laws
+pub mod Readings
+pub mod RunLemmas
+pub mod SourceLemmas
+pub mod TakeLemmas

@@ -1,0 +1,3 @@
+pub mod Jobs
+pub mod Law
+pub mod Reader
