@@ -24,7 +24,7 @@ use Rattle.vm_journal.specs.Part.{HaveCells}
 use Rattle.vm_content.specs.Next.{IsNextIn}
 use Rattle.ps_memory.specs.Next.{is_after}
 use Rattle.ps_memory.specs.Order.{cell_cmp}
-use Rattle.ps_memory.specs.Holders.{HaveHolders}
+use Rattle.ps_memory.specs.Holders.{HaveHolders, holds_string}
 use Rattle.vm_mem.specs.Writes.{action_of, actions}
 use Rattle.vm_mem.specs.declared.writes.Write.{Write}
 use Rattle.vm_mem.specs.declared.writes.Write.TheVariants.{Fresh, Put, Remove, Save}
@@ -86,7 +86,7 @@ unused M c f g d p q = go d.space refl
     go Global e = ap (shape_at M) (λ i. record { section = p i; count = q i; space = e i }) ∙ ap (λ o. shape_in (in_content o whole)) g
 
 pub newest : (M : Memory) (s : SaveName) → HaveHolders M → IsNextIn Local M.locals (Some (record { section = s.section; count = s.count; space = Global })) None → IsNewest M s
-newest M s holders n c w = (ap (λ o. shape_in (in_content o whole)) gone, holders c gone)
+newest M s holders n c w = (ap (λ o. shape_in (in_content o whole)) gone, holders c (ap holds_string gone))
   where
     no_global : (b : Bool) → is_global c ≡ b → b ≡ false
     no_global false e = refl

@@ -7,14 +7,14 @@ use Rattle.ps_objects.specs.declared.place.Loc.TheVariants as loc
 use Rattle.ps_objects.specs.declared.place.Value.TheVariants as value
 use Rattle.ps_memory.specs.Memory.{is_global, CellMap, Memory, Action, spot_of, with_part, put_cell, perform}
 use Rattle.ps_memory.proofs.Frame.{kept_store, kept_fresh}
-use Rattle.vm_content.specs.Back.{given_back}
+use Rattle.vm_content.specs.Back.{content_undone}
 use Rattle.vm_mem.specs.declared.writes.Write.{Write}
 use Rattle.vm_mem.specs.declared.writes.Write.TheVariants.{Fresh, Put, Remove, Save}
 use Rattle.vm_committed.specs.declared.undo.Undo.{Undo}
 use Rattle.vm_committed.specs.declared.undo.Undo.TheVariants.{Nothing, Made, Held, Byte, Rand, Laid}
 use Rattle.vm_journal.specs.Part.{is_empty}
 use Rattle.vm_mem.specs.Writes.{action_of}
-use Rattle.vm_committed.specs.Undo.{taken_back, all_taken_back, opens_none, none_opens, stays_closed}
+use Rattle.vm_committed.specs.Undo.{write_undone, writes_undone, opens_none, none_opens, stays_closed}
 
 -- ---- writes that open no save
 
@@ -74,10 +74,10 @@ kept_write (Save s) M h = cc
 pub kept_done : (w : Write) (M N : Memory) → opens_none w ≡ true → N ≡ perform (action_of w) M → N.kept ≡ M.kept
 kept_done w M N h e = ap (λ (m : Memory). m.kept) e ∙ kept_write w M h
 
-pub kept_back : (u : Undo) (M : Memory) → (taken_back u M).kept ≡ M.kept
+pub kept_back : (u : Undo) (M : Memory) → (write_undone u M).kept ≡ M.kept
 kept_back Nothing M = refl
 kept_back (Made c) M = kept_part M c (λ m. remove m c)
-kept_back (Held c b) M = kept_part M c (put_cell c (given_back b))
+kept_back (Held c b) M = kept_part M c (put_cell c (content_undone b))
 kept_back (Byte c i n) M = refl
 kept_back (Rand n) M = refl
 kept_back (Laid p) M = refl
@@ -85,16 +85,16 @@ kept_back (Laid p) M = refl
 -- ---- all writes are taken back
 
 -- a write that was done
-pub done_back : (us vs : List Undo) (u : Undo) (w : Action) (M N : Memory) → vs ≡ u ∷ us → N ≡ perform w M → taken_back u (perform w M) ≡ M → all_taken_back vs N ≡ all_taken_back us M
-done_back us vs u w M N e d h = ap (λ xs. all_taken_back xs N) e ∙ ap (λ m. all_taken_back us (taken_back u m)) d ∙ ap (all_taken_back us) h
+pub done_back : (us vs : List Undo) (u : Undo) (w : Action) (M N : Memory) → vs ≡ u ∷ us → N ≡ perform w M → write_undone u (perform w M) ≡ M → writes_undone vs N ≡ writes_undone us M
+done_back us vs u w M N e d h = ap (λ xs. writes_undone xs N) e ∙ ap (λ m. writes_undone us (write_undone u m)) d ∙ ap (writes_undone us) h
 
 -- a write that wasn't done
-pub undone_back : (us vs ws : List Undo) (u : Undo) (o : Option Undo) (M N : Memory) → vs ≡ u ∷ us → MatchOption o ((vs ≡ []) × (ws ≡ [])) (λ x. vs ≡ x ∷ ws) → N ≡ M → all_taken_back ws N ≡ all_taken_back us M
-undone_back us vs ws u (Some x) M N e h d = let same : ws ≡ us = cc in ap (λ xs. all_taken_back xs N) same ∙ ap (all_taken_back us) d
+pub undone_back : (us vs ws : List Undo) (u : Undo) (o : Option Undo) (M N : Memory) → vs ≡ u ∷ us → MatchOption o ((vs ≡ []) × (ws ≡ [])) (λ x. vs ≡ x ∷ ws) → N ≡ M → writes_undone ws N ≡ writes_undone us M
+undone_back us vs ws u (Some x) M N e h d = let same : ws ≡ us = cc in ap (λ xs. writes_undone xs N) same ∙ ap (writes_undone us) d
 undone_back us vs ws u None M N e h d = absurd (no_cons (sym e ∙ h.0))
   where
     no_cons : u ∷ us ≡ [] → ⊥
     no_cons e = cc
 
-pub next_back : (us vs ws : List Undo) (u : Undo) (S M N : Memory) → vs ≡ u ∷ ws → all_taken_back vs M ≡ all_taken_back us S → N ≡ taken_back u M → all_taken_back ws N ≡ all_taken_back us S
-next_back us vs ws u S M N e h d = ap (all_taken_back ws) d ∙ sym (ap (λ xs. all_taken_back xs M) e) ∙ h
+pub next_back : (us vs ws : List Undo) (u : Undo) (S M N : Memory) → vs ≡ u ∷ ws → writes_undone vs M ≡ writes_undone us S → N ≡ write_undone u M → writes_undone ws N ≡ writes_undone us S
+next_back us vs ws u S M N e h d = ap (writes_undone ws) d ∙ sym (ap (λ xs. writes_undone xs M) e) ∙ h

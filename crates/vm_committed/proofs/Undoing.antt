@@ -14,11 +14,13 @@ use Rattle.ps_memory.proofs.Order.{cells_total, cell_is}
 use Rattle.ps_memory.proofs.Places.{mapped, put_at}
 use Rattle.ps_memory.proofs.Keeping.{same_maps}
 use Rattle.ps_memory.proofs.Replace.{put_put}
-use Rattle.vm_content.specs.Back.{given_back}
+use Rattle.vm_content.specs.Back.{content_undone}
 use Rattle.vm_content.specs.declared.before.Before.{Before}
 use Rattle.vm_content.proofs.Back.{set_back, set_same, set_beyond}
 use Rattle.vm_journal.specs.Part.{Part}
-use Rattle.ps_memory.specs.Holders.{HaveHolders}
+use Rattle.ps_memory.specs.Holders.{HaveHolders, holds_string}
+use Rattle.vm_content.proofs.StringCells.{kinds_undone}
+use Rattle.vm_committed.proofs.WholeStores.{local_strings, global_strings}
 use Rattle.vm_committed.specs.Undo as undo
 use Rattle.vm_committed.proofs.WholeMaking.{none_removed, taken_back}
 use Rattle.vm_committed.specs.declared.undo.Undo.TheVariants.{Made, Byte}
@@ -70,9 +72,9 @@ part_same M c f h = go (is_global c) h
 
 -- ---- stores
 
-pub held_back : (M : Memory) (c : Cell) (t : Slot) (v : Value) (b : Before) (x : Content) → Some x ≡ get (part M c) c → given_back b (put_content t v x) ≡ x
-    → with_part (with_part M c (put_cell c (put_content t v))) c (put_cell c (given_back b)) ≡ M
-held_back M c t v b x e h = part_back M c (put_cell c (given_back b)) (put_cell c (put_content t v)) (put_back c (given_back b) (put_content t v) (part M c) x (sym e) h)
+pub held_back : (M : Memory) (c : Cell) (t : Slot) (v : Value) (b : Before) (x : Content) → Some x ≡ get (part M c) c → content_undone b (put_content t v x) ≡ x
+    → with_part (with_part M c (put_cell c (put_content t v))) c (put_cell c (content_undone b)) ≡ M
+held_back M c t v b x e h = part_back M c (put_cell c (content_undone b)) (put_cell c (put_content t v)) (put_back c (content_undone b) (put_content t v) (part M c) x (sym e) h)
 
 pub held_nowhere : (M : Memory) (c : Cell) (t : Slot) (v : Value) → None ≡ get (part M c) c → do_store (held c t) v M ≡ M
 held_nowhere M c t v e = part_same M c (put_cell c (put_content t v)) (put_nowhere c (put_content t v) (part M c) (sym e))
@@ -85,7 +87,7 @@ put_byte_beyond : (i : ℕ) (v : Value) (bs : List ℕ) → slice_get bs i ≡ N
 put_byte_beyond i (value.Byte x) bs e = set_beyond bs i x e
 put_byte_beyond i _ bs e = refl
 
-pub byte_back : (M : Memory) (c : Cell) (i : ℕ) (v : Value) (bs : List ℕ) (n : ℕ) → Some bs ≡ get M.strings c → Some n ≡ slice_get bs i → undo.taken_back (Byte c i n) (do_store (byte c i) v M) ≡ M
+pub byte_back : (M : Memory) (c : Cell) (i : ℕ) (v : Value) (bs : List ℕ) (n : ℕ) → Some bs ≡ get M.strings c → Some n ≡ slice_get bs i → undo.write_undone (Byte c i n) (do_store (byte c i) v M) ≡ M
 byte_back M c i v bs n e h = ap (λ m. record M { strings = m }) (put_back c (put_byte i (value.Byte n)) (put_byte i v) M.strings bs (sym e) (put_byte_back i v bs n (sym h)))
 
 pub byte_beyond : (M : Memory) (c : Cell) (i : ℕ) (v : Value) (bs : List ℕ) → Some bs ≡ get M.strings c → None ≡ slice_get bs i → do_store (byte c i) v M ≡ M
@@ -121,58 +123,42 @@ made_back M c f g s t h k = go (is_global c) h
     go true h = λ i. record M { globals = h i; strings = k i }
     go false h = λ i. record M { locals = h i; strings = k i }
 
-pub fresh_back : (M : Memory) (c : Cell) (sh : Shape) → IsUnused M c → HaveHolders M → undo.taken_back (Made c) (do_fresh c sh M) ≡ M
+pub fresh_back : (M : Memory) (c : Cell) (sh : Shape) → IsUnused M c → HaveHolders M → undo.write_undone (Made c) (do_fresh c sh M) ≡ M
 fresh_back M c sh unused holders =
     let none = missing (get (part M c) c) (unused c refl refl) in
     made_back M c (λ m. remove m c) (λ m. insert m c (content_of sh)) (new_bytes c sh M.strings) (remove (new_bytes c sh M.strings) c)
-    (taken_back (part M c) c (content_of sh) none) (bytes_back c sh M.strings (holders c none))
+    (taken_back (part M c) c (content_of sh) none) (bytes_back c sh M.strings (holders c (ap holds_string none)))
 
 -- ---- strings and their cells
 
-put_none : (c d : Cell) (f : Content → Content) (m : CellMap) → get (put_cell c f m) d ≡ None → get m d ≡ None
-put_none c d f m e = go (same_cell d c) (get m d) (sym (put_at c d f m) ∙ e)
-  where
-    go : (b : Bool) (o : Option Content) → cond b (mapped f o) o ≡ None → o ≡ None
-    go b None e = refl
-    go true (Some x) e = cc
-    go false (Some x) e = e
+pub holders_given_local : (M : Memory) (new : Part) (c : Cell) (b : Before) → new ≡ record { cells = put_cell c (content_undone b) M.locals; kept = M.kept } → HaveHolders M → HaveHolders (record M { locals = new.cells; kept = new.kept })
+holders_given_local M new c b is h = local_strings M new (λ d. ap (λ (p : Part). holds_string (get p.cells d)) is ∙ kinds_undone c d b M.locals) h
 
-pub holders_given_local : (M : Memory) (new : Part) (c : Cell) (f : Content → Content) → new ≡ record { cells = put_cell c f M.locals; kept = M.kept } → HaveHolders M → HaveHolders (record M { locals = new.cells; kept = new.kept })
-holders_given_local M new c f is h d e = h d (go (is_global d) e)
-  where
-    go : (y : Bool) → get (cond y M.globals new.cells) d ≡ None → get (cond y M.globals M.locals) d ≡ None
-    go true e = e
-    go false e = put_none c d f M.locals (sym (ap (λ (p : Part). get p.cells d) is) ∙ e)
-
-pub holders_given_global : (M : Memory) (new : CellMap) (c : Cell) (f : Content → Content) → new ≡ put_cell c f M.globals → HaveHolders M → HaveHolders (record M { globals = new })
-holders_given_global M new c f is h d e = h d (go (is_global d) e)
-  where
-    go : (y : Bool) → get (cond y new M.locals) d ≡ None → get (cond y M.globals M.locals) d ≡ None
-    go true e = put_none c d f M.globals (sym (ap (λ m. get m d) is) ∙ e)
-    go false e = e
+pub holders_given_global : (M : Memory) (new : CellMap) (c : Cell) (b : Before) → new ≡ put_cell c (content_undone b) M.globals → HaveHolders M → HaveHolders (record M { globals = new })
+holders_given_global M new c b is h = global_strings M new (λ d. ap (λ m. holds_string (get m d)) is ∙ kinds_undone c d b M.globals) h
 
 -- a cell and its bytes are gone
-less_holders : (M N : Memory) (c : Cell) → N.strings ≡ remove M.strings c → ((d : Cell) → same_cell d c ≡ false → get (part N d) d ≡ None → get (part M d) d ≡ None) → HaveHolders M → HaveHolders N
+less_holders : (M N : Memory) (c : Cell) → N.strings ≡ remove M.strings c → ((d : Cell) → same_cell d c ≡ false → get (part N d) d ≡ get (part M d) d) → HaveHolders M → HaveHolders N
 less_holders M N c is other h d e = ap (λ m. get m d) is ∙ get-remove cells_total M.strings c d ∙ go (same_cell d c) refl
   where
     go : (b : Bool) → same_cell d c ≡ b → cond b None (get M.strings d) ≡ None
     go true i = refl
-    go false i = h d (other d i e)
+    go false i = h d (ap holds_string (sym (other d i)) ∙ e)
 
-remove_other : (c d : Cell) (m n : CellMap) → n ≡ remove m c → same_cell d c ≡ false → get n d ≡ None → get m d ≡ None
-remove_other c d m n is i e = sym (ap (λ o. get o d) is ∙ get-remove cells_total m c d ∙ ap (λ b. cond b None (get m d)) i) ∙ e
+removed_other : (c d : Cell) (m n : CellMap) → n ≡ remove m c → same_cell d c ≡ false → get n d ≡ get m d
+removed_other c d m n is i = ap (λ o. get o d) is ∙ get-remove cells_total m c d ∙ ap (λ b. cond b None (get m d)) i
 
 pub holders_less_local : (M : Memory) (new : Part) (s : FinMap cell_cmp (List ℕ)) (c : Cell) → new ≡ record { cells = remove M.locals c; kept = M.kept } → s ≡ remove M.strings c → HaveHolders M
     → HaveHolders (record M { locals = new.cells; kept = new.kept; strings = s })
-holders_less_local M new s c is gone h = less_holders M (record M { locals = new.cells; kept = new.kept; strings = s }) c gone (λ d i e. go d i (is_global d) e) h
+holders_less_local M new s c is gone h = less_holders M (record M { locals = new.cells; kept = new.kept; strings = s }) c gone (λ d i. go d i (is_global d)) h
   where
-    go : (d : Cell) → same_cell d c ≡ false → (y : Bool) → get (cond y M.globals new.cells) d ≡ None → get (cond y M.globals M.locals) d ≡ None
-    go d i true e = e
-    go d i false e = remove_other c d M.locals new.cells (ap (λ (p : Part). p.cells) is) i e
+    go : (d : Cell) → same_cell d c ≡ false → (y : Bool) → get (cond y M.globals new.cells) d ≡ get (cond y M.globals M.locals) d
+    go d i true = refl
+    go d i false = removed_other c d M.locals new.cells (ap (λ (p : Part). p.cells) is) i
 
 pub holders_less_global : (M : Memory) (new : CellMap) (s : FinMap cell_cmp (List ℕ)) (c : Cell) → new ≡ remove M.globals c → s ≡ remove M.strings c → HaveHolders M → HaveHolders (record M { globals = new; strings = s })
-holders_less_global M new s c is gone h = less_holders M (record M { globals = new; strings = s }) c gone (λ d i e. go d i (is_global d) e) h
+holders_less_global M new s c is gone h = less_holders M (record M { globals = new; strings = s }) c gone (λ d i. go d i (is_global d)) h
   where
-    go : (d : Cell) → same_cell d c ≡ false → (y : Bool) → get (cond y new M.locals) d ≡ None → get (cond y M.globals M.locals) d ≡ None
-    go d i true e = remove_other c d M.globals new is i e
-    go d i false e = e
+    go : (d : Cell) → same_cell d c ≡ false → (y : Bool) → get (cond y new M.locals) d ≡ get (cond y M.globals M.locals) d
+    go d i true = removed_other c d M.globals new is i
+    go d i false = refl

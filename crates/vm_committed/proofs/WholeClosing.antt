@@ -15,7 +15,7 @@ use Rattle.ps_memory.proofs.Places.{kept_at}
 use Rattle.ps_memory.proofs.Frame.{save_is}
 use Rattle.ps_memory.proofs.Keeping.{same_maps}
 use Rattle.vm_journal.specs.Part.{Part, HaveCells, Closes, kept_from}
-use Rattle.ps_memory.specs.Holders.{HaveHolders}
+use Rattle.ps_memory.specs.Holders.{HaveHolders, holds_string}
 
 -- ---- names
 
@@ -78,6 +78,6 @@ pub holders_kept : (M : Memory) (locals : CellMap) (strings : FinMap cell_cmp (L
     → HaveHolders M → HaveHolders (record M { locals = locals; strings = strings; kept = kept })
 holders_kept M locals strings kept fewer own h d = go (is_global d) refl
   where
-    go : (b : Bool) → is_global d ≡ b → get (cond b M.globals locals) d ≡ None → get strings d ≡ None
-    go true i e = fewer d (h d (ap (λ b. get (cond b M.globals M.locals) d) i ∙ e))
+    go : (b : Bool) → is_global d ≡ b → holds_string (get (cond b M.globals locals) d) ≡ false → get strings d ≡ None
+    go true i e = fewer d (h d (ap (λ b. holds_string (get (cond b M.globals M.locals) d)) i ∙ e))
     go false i e = own d i e

@@ -12,7 +12,7 @@ use Rattle.ps_memory.proofs.Places.{part_here, part_other, insert_here, insert_o
 use Rattle.ps_memory.proofs.Keeping.{same_maps}
 use Rattle.vm_content.proofs.Cells.{cell_inserted, cell_removed}
 use Rattle.vm_journal.specs.Part.{Part}
-use Rattle.ps_memory.specs.Holders.{HaveHolders}
+use Rattle.ps_memory.specs.Holders.{HaveHolders, holds_string}
 
 module _ {X : Type 0} where
   pub none_removed : (m : FinMap cell_cmp X) (c : Cell) → get m c ≡ None → remove m c ≡ m
@@ -42,19 +42,22 @@ made_parts M new globals c x p q d = ap (λ (n : Part). get (cond (is_global d) 
     go false true = refl
     go false false = refl
 
--- the new cell stands, and the strings of others are as before
+-- the new cell stands: a string's, or one without bytes; and the bytes of others are as before
 pub holders_made : (M : Memory) (new : Part) (globals : CellMap) (strings : FinMap cell_cmp (List ℕ)) (c : Cell) (x : Content)
     → new ≡ record { cells = cond (is_global c) M.locals (insert M.locals c x); kept = M.kept } → globals ≡ cond (is_global c) (insert M.globals c x) M.globals
-    → ((d : Cell) → same_cell d c ≡ false → get strings d ≡ get M.strings d) → HaveHolders M
+    → (holds_string (Some x) ≡ false → get strings c ≡ None) → ((d : Cell) → same_cell d c ≡ false → get strings d ≡ get M.strings d) → HaveHolders M
     → HaveHolders (record M { locals = new.cells; globals = globals; strings = strings; kept = new.kept })
-holders_made M new globals strings c x p q others h d e = go (same_cell d c) refl (sym (made_parts M new globals c x p q d) ∙ e)
+holders_made M new globals strings c x p q bare others h d e = go (same_cell d c) refl (ap holds_string (sym (made_parts M new globals c x p q d)) ∙ e)
   where
     f : CellMap → CellMap
     f = λ m. insert m c x
 
-    go : (b : Bool) → same_cell d c ≡ b → get (part (with_part M c f) d) d ≡ None → get strings d ≡ None
-    go true i n = cc (subst (λ d. get (part (with_part M c f) d) d ≡ Some x) (sym (cell_is d c i)) (ap (λ m. get m c) (part_here c f M) ∙ insert_here c x (part M c)), n)
-    go false i n = others d i ∙ h d (sym (part_other c d f M (λ m. insert_other c d x m i)) ∙ n)
+    there : get (part (with_part M c f) c) c ≡ Some x
+    there = ap (λ m. get m c) (part_here c f M) ∙ insert_here c x (part M c)
+
+    go : (b : Bool) → same_cell d c ≡ b → holds_string (get (part (with_part M c f) d) d) ≡ false → get strings d ≡ None
+    go true i n = let same = cell_is d c i in ap (get strings) same ∙ bare (ap holds_string (sym there) ∙ subst (λ d. holds_string (get (part (with_part M c f) d) d) ≡ false) same n)
+    go false i n = others d i ∙ h d (ap holds_string (sym (part_other c d f M (λ m. insert_other c d x m i))) ∙ n)
 
 pub inserted_elsewhere : (m n : FinMap cell_cmp (List ℕ)) (c d : Cell) (bs : List ℕ) → n ≡ insert m c bs → same_cell d c ≡ false → get n d ≡ get m d
 inserted_elsewhere m n c d bs is i = ap (λ k. get k d) is ∙ insert_other c d bs m i

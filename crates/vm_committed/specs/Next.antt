@@ -1,9 +1,8 @@
 -- The earlier of two cells.
-use Rattle.std.specs.Prelude.{◌≡◌, ◌≢◌, true, false, cond, Option, Some, None}
+use Rattle.std.specs.Prelude.{cond, Option, Some, None}
 use Rattle.ps_objects.specs.declared.cell.Cell.{Cell}
 use Rattle.ps_objects.specs.declared.place.Shape.{Shape}
-use Rattle.ps_memory.specs.Memory.{Memory, shape_at}
-use Rattle.ps_memory.specs.Next.{comes_before, is_after}
+use Rattle.ps_memory.specs.Next.{comes_before}
 
 -- what comes first of a local and a global cell
 abbrev pub earlier : Option (Cell × Shape) → Option (Cell × Shape) → Option (Cell × Shape)

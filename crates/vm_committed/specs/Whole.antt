@@ -1,12 +1,10 @@
 -- A memory, seen from its parts.
-use Rattle.std.specs.Prelude.{◌≡◌, ℕ, Bool, true, false, refl, None, ◌⊎◌}
+use Rattle.std.specs.Prelude.{◌≡◌, ℕ, refl, ◌⊎◌}
 use Rattle.std.proofs.Common.{inl, inr}
 use Rattle.std.specs.Coded.{Coded, code_by, coded×, coded⊎, coded_list, coded_ℕ}
 use Rattle.std.specs.FinMap as map
-use Rattle.std.specs.FinMap.{get}
 use Rattle.ps_shapes.specs.Sheet.{Sheet}
 use Rattle.ps_shapes.specs.contracts.paper.Paper as papers
-use Rattle.ps_objects.specs.declared.cell.Cell.{Cell}
 use Rattle.ps_objects.specs.contracts.cell.Cell as cells
 use Rattle.ps_memory.specs.Memory as spec
 use Rattle.ps_memory.specs.Memory.{Memory, part, here, out}

@@ -4,17 +4,18 @@ ghost use Rattle.std.specs.FinMap.{get, insert, from_entries};
 ghost use Rattle.std.specs.List.{AllByRecursion};
 ghost use Rattle.ps_memory.specs.Order.{cell_cmp};
 ghost use Rattle.ps_objects.specs.declared.place.Value.TheVariants as value;
-ghost use Rattle.ps_memory.specs.Memory.{is_global, newer, part, with_part, value_at, value_found, in_string, page_found, is_slot, is_kind, held, byte, rand, paper, spot_of, put_content, put_byte, put_cell, do_store, copy_named, older_than};
+ghost use Rattle.ps_memory.specs.Memory.{is_global, newer, part, with_part, value_at, value_found, in_string, page_found, is_slot, is_kind, held, byte, rand, paper, spot_of, put_content, put_byte, put_cell, characters, do_store, copy_named, older_than};
 ghost use Rattle.vm_content.specs.Content.{slot_in};
 ghost use Rattle.ps_memory.specs.Holders.{HaveHolders};
 ghost use Rattle.vm_journal.specs.Part.{HaveCells, kept_from};
+ghost use Rattle.vm_content.specs.Maps.{cells_of};
 
 use crate::page::Page;
 use ps_objects::{Cell, Loc, NoMemory, SaveName, Space, Value};
 use std::alloc::Global;
 use std::collections::BTreeMap;
 use std::marker::Model;
-use vm_content::{Bytes, Content};
+use vm_content::{Bytes, Content, insert_cell, put_in_cell};
 use vm_journal::Locals;
 
 /// The committed memory: local and global cells, the bytes of strings, the state of the random numbers and the paper
@@ -32,6 +33,7 @@ pub struct Cells {
 }
 
 impl Model for Cells {
+    ghost use Rattle.vm_content.specs.Maps.{cells_of};
     ghost use Rattle.std.specs.FinMap.{from_entries};
     ghost use Rattle.ps_memory.specs.Order.{cell_cmp};
     ghost use Rattle.ps_memory.specs.Memory.{Memory};
@@ -42,9 +44,9 @@ impl Model for Cells {
 
     ghost coded = { memory_code };
 
-    ghost view = { λ m. record { locals = m.locals.cells; globals = from_entries {R = cell_cmp} m.globals.entries; strings = from_entries {R = cell_cmp} m.strings.entries; rand = m.rand; page = page_of m.page; kept = m.locals.kept } };
+    ghost view = { λ m. record { locals = m.locals.cells; globals = cells_of m.globals; strings = cells_of m.strings; rand = m.rand; page = page_of m.page; kept = m.locals.kept } };
 
-    ghost invariant = { λ m. HaveHolders (record { locals = m.locals.cells; globals = from_entries {R = cell_cmp} m.globals.entries; strings = from_entries {R = cell_cmp} m.strings.entries; rand = m.rand; page = page_of m.page; kept = m.locals.kept }) };
+    ghost invariant = { λ m. HaveHolders (record { locals = m.locals.cells; globals = cells_of m.globals; strings = cells_of m.strings; rand = m.rand; page = page_of m.page; kept = m.locals.kept }) };
 }
 
 impl Cells {
@@ -118,7 +120,7 @@ impl Cells {
     {
         match cell.space {
             Space::Local => self.locals.put(cell, at, value),
-            Space::Global => put_in(&mut self.globals, cell, at, value),
+            Space::Global => put_in_cell(&mut self.globals, at, value),
         }
     }
 
@@ -162,7 +164,7 @@ impl Cells {
         ensures ok { OnOk result (self.new ≡ with_part self.old cell (λ m. insert m cell content)) }
         ensures err { OnErr result (self.new ≡ self.old) }
     {
-        insert_cell(&mut self.locals, &mut self.globals, cell, content)?;
+        insert_held(&mut self.locals, &mut self.globals, cell, content)?;
         Ok(())
     }
 
@@ -173,6 +175,7 @@ impl Cells {
         len: u32,
         content: Content,
     ) -> Result<(), NoMemory>
+        requires string { content ≡ characters len }
         requires unused { get self.old.strings cell ≡ None }
         requires newest { is_global cell ≡ false → AllByRecursion (λ k. newer cell k.0 ≡ true) self.old.kept }
         ensures ok { OnOk result (self.new ≡ record (with_part self.old cell (λ m. insert m cell content)) { strings = insert self.old.strings cell (replicate len 0) }) }
@@ -201,17 +204,17 @@ fn insert_string(
     content: Content,
     bytes: Bytes,
 ) -> Result<(), NoMemory>
-    requires unused { get (from_entries {R = cell_cmp} strings.old.entries) cell ≡ None }
+    requires unused { get (cells_of strings.old) cell ≡ None }
     requires newest { is_global cell ≡ false → AllByRecursion (λ k. newer cell k.0 ≡ true) locals.old.kept }
     ensures locals { OnOk result (locals.new ≡ record { cells = cond (is_global cell) locals.old.cells (insert locals.old.cells cell content); kept = locals.old.kept }) }
-    ensures globals { OnOk result (from_entries {R = cell_cmp} globals.new.entries ≡ cond (is_global cell) (insert (from_entries {R = cell_cmp} globals.old.entries) cell content) (from_entries {R = cell_cmp} globals.old.entries)) }
-    ensures strings { OnOk result (from_entries {R = cell_cmp} strings.new.entries ≡ insert (from_entries {R = cell_cmp} strings.old.entries) cell bytes) }
+    ensures globals { OnOk result (cells_of globals.new ≡ cond (is_global cell) (insert (cells_of globals.old) cell content) (cells_of globals.old)) }
+    ensures strings { OnOk result (cells_of strings.new ≡ insert (cells_of strings.old) cell bytes) }
     ensures same_locals { OnErr result (locals.new ≡ locals.old) }
-    ensures same_globals { OnErr result (from_entries {R = cell_cmp} globals.new.entries ≡ from_entries {R = cell_cmp} globals.old.entries) }
-    ensures same_strings { OnErr result (from_entries {R = cell_cmp} strings.new.entries ≡ from_entries {R = cell_cmp} strings.old.entries) }
+    ensures same_globals { OnErr result (cells_of globals.new ≡ cells_of globals.old) }
+    ensures same_strings { OnErr result (cells_of strings.new ≡ cells_of strings.old) }
 {
     strings.insert(cell, bytes)?;
-    match insert_cell(locals, globals, cell, content) {
+    match insert_held(locals, globals, cell, content) {
         Ok(()) => Ok(()),
         Err(error) => {
             strings.remove(&cell);
@@ -221,7 +224,7 @@ fn insert_string(
 }
 
 /// Adds a cell to its part.
-fn insert_cell(
+fn insert_held(
     locals: &mut Locals,
     globals: &mut BTreeMap<Cell, Content>,
     cell: Cell,
@@ -229,52 +232,21 @@ fn insert_cell(
 ) -> Result<(), NoMemory>
     requires newest { is_global cell ≡ false → AllByRecursion (λ k. newer cell k.0 ≡ true) locals.old.kept }
     ensures locals { OnOk result (locals.new ≡ record { cells = cond (is_global cell) locals.old.cells (insert locals.old.cells cell content); kept = locals.old.kept }) }
-    ensures globals { OnOk result (from_entries {R = cell_cmp} globals.new.entries ≡ cond (is_global cell) (insert (from_entries {R = cell_cmp} globals.old.entries) cell content) (from_entries {R = cell_cmp} globals.old.entries)) }
+    ensures globals { OnOk result (cells_of globals.new ≡ cond (is_global cell) (insert (cells_of globals.old) cell content) (cells_of globals.old)) }
     ensures same_locals { OnErr result (locals.new ≡ locals.old) }
-    ensures same_globals { OnErr result (from_entries {R = cell_cmp} globals.new.entries ≡ from_entries {R = cell_cmp} globals.old.entries) }
+    ensures same_globals { OnErr result (cells_of globals.new ≡ cells_of globals.old) }
 {
     match cell.space {
         Space::Local => locals.insert(cell, content)?,
-        Space::Global => insert_in(globals, cell, content)?,
+        Space::Global => insert_cell(globals, cell, content)?,
     }
     Ok(())
-}
-
-/// Adds a cell to a map.
-#[tactic(auto, using(vm_content::proofs::Cells::cell_inserted))]
-fn insert_in(
-    cells: &mut BTreeMap<Cell, Content>,
-    cell: Cell,
-    content: Content,
-) -> Result<(), NoMemory>
-    ensures ok { OnOk result (from_entries {R = cell_cmp} cells.new.entries ≡ insert (from_entries {R = cell_cmp} cells.old.entries) cell content) }
-    ensures err { OnErr result (from_entries {R = cell_cmp} cells.new.entries ≡ from_entries {R = cell_cmp} cells.old.entries) }
-{
-    cells.insert(cell, content)?;
-    Ok(())
-}
-
-/// Stores a value at a place of a cell of a map.
-#[tactic(auto, using(vm_content::proofs::Cells::cell_written, vm_content::proofs::Cells::cell_missing, crate::proofs::WholeStores::cell_kept))]
-fn put_in(
-    cells: &mut BTreeMap<Cell, Content>,
-    cell: Cell,
-    at: &Loc,
-    value: Value,
-) -> Result<(), NoMemory>
-    ensures ok { OnOk result (from_entries {R = cell_cmp} cells.new.entries ≡ put_cell cell (put_content (slot_in at.now) value) (from_entries {R = cell_cmp} cells.old.entries)) }
-    ensures err { OnErr result (from_entries {R = cell_cmp} cells.new.entries ≡ from_entries {R = cell_cmp} cells.old.entries) }
-{
-    match cells.get_mut(&cell) {
-        Some(content) => content.put(at, value),
-        None => Ok(()),
-    }
 }
 
 /// Stores a byte of a string, if the string is that long.
 #[tactic(auto, using(vm_content::proofs::Cells::cell_written, vm_content::proofs::Cells::cell_missing))]
 pub(crate) fn put_byte_in(strings: &mut BTreeMap<Cell, Bytes>, string: Cell, at: u32, byte: u8)
-    ensures { from_entries {R = cell_cmp} strings.new.entries ≡ put_cell string (put_byte at (value.Byte byte)) (from_entries {R = cell_cmp} strings.old.entries) }
+    ensures { cells_of strings.new ≡ put_cell string (put_byte at (value.Byte byte)) (cells_of strings.old) }
 {
     if let Some(bytes) = strings.get_mut(&string) {
         bytes.set(at, byte);
@@ -287,13 +259,13 @@ pub(crate) fn close_until(
     strings: &mut BTreeMap<Cell, Bytes>,
     name: SaveName,
 ) -> Result<(), NoMemory>
-    requires cells { HaveCells (from_entries {R = cell_cmp} strings.old.entries) locals.old.cells }
+    requires cells { HaveCells (cells_of strings.old) locals.old.cells }
     requires open { copy_named name locals.old.kept ≢ None }
     ensures copy { OnOk result (copy_named name locals.old.kept ≡ Some locals.new.cells) }
     ensures kept { OnOk result (locals.new.kept ≡ older_than name locals.old.kept) }
-    ensures strings { OnOk result (from_entries {R = cell_cmp} strings.new.entries ≡ kept_from name (from_entries {R = cell_cmp} strings.old.entries)) }
-    ensures cells { HaveCells (from_entries {R = cell_cmp} strings.new.entries) locals.new.cells }
-    ensures fewer { (c : Cell) → get (from_entries {R = cell_cmp} strings.old.entries) c ≡ None → get (from_entries {R = cell_cmp} strings.new.entries) c ≡ None }
+    ensures strings { OnOk result (cells_of strings.new ≡ kept_from name (cells_of strings.old)) }
+    ensures cells { HaveCells (cells_of strings.new) locals.new.cells }
+    ensures fewer { (c : Cell) → get (cells_of strings.old) c ≡ None → get (cells_of strings.new) c ≡ None }
 {
     while let Some(closed) = locals.close(strings)? {
         if name == closed {

@@ -9,6 +9,8 @@ mod holds;
 mod next;
 mod page;
 mod quick;
+mod sharing;
 mod undo;
 
 pub use cells::Cells;
+pub use sharing::cells_may_be_shared;

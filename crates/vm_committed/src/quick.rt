@@ -5,7 +5,7 @@ ghost use Rattle.ps_memory.specs.Frame.{Allowed};
 ghost use Rattle.ps_memory.specs.Writes.{apply, Applicable};
 ghost use Rattle.vm_mem.specs.Conditions.{page_is_here};
 ghost use Rattle.vm_mem.specs.Writes.{action_of, actions};
-ghost use Rattle.vm_committed.specs.Undo.{all_taken_back, opens_none, none_opens, stays_closed};
+ghost use Rattle.vm_committed.specs.Undo.{writes_undone, opens_none, none_opens, stays_closed};
 
 use crate::cells::Cells;
 use crate::undo::Undo;
@@ -34,7 +34,7 @@ impl Cells {
         match self.do_all(writes, &mut undos) {
             Ok(()) => Ok(()),
             Err(error) => {
-                self.take_all_back(undos);
+                self.undo_all(undos);
                 Err(error)
             }
         }
@@ -47,7 +47,7 @@ impl Cells {
         requires closed { none_opens writes.now ≡ true }
         requires applicable { Applicable (actions writes.now) self.old }
         ensures ok { OnOk result (self.new ≡ apply (actions writes.now) self.old) }
-        ensures back { all_taken_back undos.new self.new ≡ all_taken_back undos.old self.old }
+        ensures back { writes_undone undos.new self.new ≡ writes_undone undos.old self.old }
         ensures kept { self.new.kept ≡ self.old.kept }
     {
         for depth in (0..writes.len()).rev() {
@@ -63,7 +63,7 @@ impl Cells {
         requires closed { opens_none write.now ≡ true }
         requires allowed { Allowed (action_of write.now) self.old }
         ensures ok { OnOk result (self.new ≡ perform (action_of write.now) self.old) }
-        ensures back { all_taken_back undos.new self.new ≡ all_taken_back undos.old self.old }
+        ensures back { writes_undone undos.new self.new ≡ writes_undone undos.old self.old }
         ensures kept { self.new.kept ≡ self.old.kept }
     {
         let undo = self.undo_of(write)?;
@@ -79,13 +79,13 @@ impl Cells {
 
     /// Takes writes back, the newest first.
     #[tactic(auto, using(crate::proofs::TakingBack::next_back, crate::proofs::TakingBack::kept_back))]
-    fn take_all_back(&mut self, undos: Stack<Undo>)
+    fn undo_all(&mut self, undos: Stack<Undo>)
         requires { self.old.kept ≡ [] }
-        ensures { self.new ≡ all_taken_back undos self.old }
+        ensures { self.new ≡ writes_undone undos self.old }
     {
         let mut undos = undos;
         while let Some(undo) = undos.pop() {
-            self.take_back(undo);
+            self.undo(undo);
         }
     }
 }

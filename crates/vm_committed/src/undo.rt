@@ -4,16 +4,16 @@ ghost use Rattle.std.specs.FinMap.{get};
 ghost use Rattle.ps_memory.specs.Memory.{held, byte, spot_of, with_part, put_cell, do_store, do_fresh, store, fresh, perform};
 ghost use Rattle.ps_memory.specs.Frame.{Allowed};
 ghost use Rattle.vm_content.specs.Content.{slot_in};
-ghost use Rattle.vm_content.specs.Back.{given_back};
+ghost use Rattle.vm_content.specs.Back.{content_undone};
 ghost use Rattle.vm_committed.specs.declared.undo.Undo.TheVariants as undo;
 ghost use Rattle.vm_committed.specs.Whole.{page_of};
 ghost use Rattle.vm_mem.specs.Writes.{action_of};
-ghost use Rattle.vm_committed.specs.Undo.{taken_back, opens_none};
+ghost use Rattle.vm_committed.specs.Undo.{write_undone, opens_none};
 
 use crate::cells::{Cells, put_byte_in};
 use crate::page::Page;
 use ps_objects::{Cell, Loc, NoMemory, Shape, Space, Value};
-use vm_content::{Before, Bytes, forget_bytes, forget_cell, give_cell_back};
+use vm_content::{Before, Bytes, remove_bytes, remove_cell, undo_in_cell};
 use vm_mem::Write;
 
 /// How one write is taken back, which takes no memory.
@@ -44,40 +44,40 @@ impl Cells {
     pub(crate) fn undo_of(&self, write: &Write) -> Result<Undo, NoMemory>
         requires allowed { Allowed (action_of write.now) self.now }
         requires closed { opens_none write.now ≡ true }
-        ensures { IfOk result (λ undo. taken_back undo (perform (action_of write.now) self.now) ≡ self.now) }
+        ensures { IfOk result (λ undo. write_undone undo (perform (action_of write.now) self.now) ≡ self.now) }
     {
         match write {
-            Write::Fresh { cell, shape } => Ok(self.undo_fresh(*cell, *shape)),
-            Write::Put { at, value } => self.undo_put(at, value),
+            Write::Fresh { cell, shape } => Ok(self.undo_of_fresh(*cell, *shape)),
+            Write::Put { at, value } => self.undo_of_put(at, value),
             Write::Remove { dict, key } => {
                 let at = Loc::Entry {
                     dict: *dict,
                     key: key.copy()?,
                 };
-                self.undo_put(&at, &Value::Absent)
+                self.undo_of_put(&at, &Value::Absent)
             }
             Write::Save { .. } => Ok(Undo::Nothing),
         }
     }
 
     #[tactic(auto, using(crate::proofs::Undoing::fresh_back))]
-    fn undo_fresh(&self, cell: Cell, shape: Shape) -> Undo
+    fn undo_of_fresh(&self, cell: Cell, shape: Shape) -> Undo
         requires { Allowed (fresh cell shape) self.now }
-        ensures { taken_back result (do_fresh cell shape self.now) ≡ self.now }
+        ensures { write_undone result (do_fresh cell shape self.now) ≡ self.now }
     {
         let _ = &self.strings; // each is a cell's that stands
         Undo::Made { cell }
     }
 
-    fn undo_put(&self, at: &Loc, value: &Value) -> Result<Undo, NoMemory>
-        ensures { IfOk result (λ undo. taken_back undo (perform (store at.now value.now) self.now) ≡ self.now) }
+    fn undo_of_put(&self, at: &Loc, value: &Value) -> Result<Undo, NoMemory>
+        ensures { IfOk result (λ undo. write_undone undo (perform (store at.now value.now) self.now) ≡ self.now) }
     {
         match at {
             Loc::Entry { dict, .. } | Loc::Keys { dict } | Loc::Access { dict } => {
-                self.undo_held(*dict, at, value)
+                self.undo_of_held(*dict, at, value)
             }
-            Loc::Item { array, .. } => self.undo_held(*array, at, value),
-            Loc::Byte { string, at } => Ok(self.undo_byte(*string, *at, value)),
+            Loc::Item { array, .. } => self.undo_of_held(*array, at, value),
+            Loc::Byte { string, at } => Ok(self.undo_of_byte(*string, *at, value)),
             Loc::Rand => Ok(Undo::Rand { state: self.rand }),
             Loc::Paper => {
                 let page = self.page.copy()?;
@@ -87,9 +87,9 @@ impl Cells {
     }
 
     #[tactic(auto, using(crate::proofs::Undoing::held_back, crate::proofs::Undoing::held_nowhere))]
-    fn undo_held(&self, cell: Cell, at: &Loc, value: &Value) -> Result<Undo, NoMemory>
+    fn undo_of_held(&self, cell: Cell, at: &Loc, value: &Value) -> Result<Undo, NoMemory>
         requires { spot_of at.now ≡ held cell (slot_in at.now) }
-        ensures { IfOk result (λ undo. taken_back undo (do_store (held cell (slot_in at.now)) value.now self.now) ≡ self.now) }
+        ensures { IfOk result (λ undo. write_undone undo (do_store (held cell (slot_in at.now)) value.now self.now) ≡ self.now) }
     {
         match self.content(cell) {
             Some(content) => {
@@ -109,8 +109,8 @@ impl Cells {
     }
 
     #[tactic(auto, using(crate::proofs::Undoing::byte_nowhere))]
-    fn undo_byte(&self, string: Cell, at: u32, value: &Value) -> Undo
-        ensures { taken_back result (do_store (byte string at) value.now self.now) ≡ self.now }
+    fn undo_of_byte(&self, string: Cell, at: u32, value: &Value) -> Undo
+        ensures { write_undone result (do_store (byte string at) value.now self.now) ≡ self.now }
     {
         match self.bytes(string) {
             Some(bytes) => match bytes.get(at) {
@@ -125,47 +125,47 @@ impl Cells {
 // Taking it back.
 impl Cells {
     /// Takes a write back, where no save is open.
-    pub(crate) fn take_back(&mut self, way: Undo)
+    pub(crate) fn undo(&mut self, way: Undo)
         requires { self.old.kept ≡ [] }
-        ensures { self.new ≡ taken_back way self.old }
+        ensures { self.new ≡ write_undone way self.old }
     {
         match way {
             Undo::Nothing => {}
-            Undo::Made { cell } => self.forget(cell),
-            Undo::Held { cell, before } => self.give_cell_back(cell, before),
-            Undo::Byte { string, at, byte } => self.give_byte_back(string, at, byte),
+            Undo::Made { cell } => self.undo_made(cell),
+            Undo::Held { cell, before } => self.undo_in_cell(cell, before),
+            Undo::Byte { string, at, byte } => self.undo_byte(string, at, byte),
             Undo::Rand { state } => self.rand = state,
             Undo::Laid { page } => self.page = page,
         }
     }
 
     #[tactic(auto, using(crate::proofs::Undoing::in_locals, crate::proofs::Undoing::in_globals))]
-    fn give_cell_back(&mut self, cell: Cell, before: Before)
+    fn undo_in_cell(&mut self, cell: Cell, before: Before)
         requires { self.old.kept ≡ [] }
-        ensures { self.new ≡ with_part self.old cell (put_cell cell (given_back before)) }
+        ensures { self.new ≡ with_part self.old cell (put_cell cell (content_undone before)) }
     {
         match cell.space {
-            Space::Local => self.locals.give_back(cell, before),
-            Space::Global => give_cell_back(&mut self.globals, cell, before),
+            Space::Local => self.locals.undo(cell, before),
+            Space::Global => undo_in_cell(&mut self.globals, cell, before),
         }
     }
 
-    fn give_byte_back(&mut self, string: Cell, at: u32, byte: u8)
-        ensures { self.new ≡ taken_back (undo.Byte string at byte) self.old }
+    fn undo_byte(&mut self, string: Cell, at: u32, byte: u8)
+        ensures { self.new ≡ write_undone (undo.Byte string at byte) self.old }
     {
         put_byte_in(&mut self.strings, string, at, byte);
     }
 
     /// Takes a cell and its bytes away.
     #[tactic(auto, using(crate::proofs::Undoing::in_locals, crate::proofs::Undoing::in_globals))]
-    fn forget(&mut self, cell: Cell)
+    fn undo_made(&mut self, cell: Cell)
         requires { self.old.kept ≡ [] }
-        ensures { self.new ≡ taken_back (undo.Made cell) self.old }
+        ensures { self.new ≡ write_undone (undo.Made cell) self.old }
     {
-        forget_bytes(&mut self.strings, cell);
+        remove_bytes(&mut self.strings, cell);
         match cell.space {
-            Space::Local => self.locals.forget(cell),
-            Space::Global => forget_cell(&mut self.globals, cell),
+            Space::Local => self.locals.remove(cell),
+            Space::Global => remove_cell(&mut self.globals, cell),
         }
     }
 }

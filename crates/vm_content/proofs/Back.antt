@@ -4,6 +4,7 @@ use Rattle.std.specs.Ordering.{eq_by_cmp}
 use Rattle.std.specs.Map.{lookup}
 use Rattle.std.specs.BTreeMap.{BTreeMap, is_at, WritesThrough}
 use Rattle.std.specs.FinMap.{FinMap, get, insert, remove, from_entries, get-insert, get-remove, same_map}
+use Rattle.ps_objects.specs.declared.access.Access.{Access}
 use Rattle.ps_objects.specs.declared.key.Key.{Key}
 use Rattle.ps_objects.specs.declared.object.Object.{Object}
 use Rattle.ps_objects.specs.declared.place.Loc.{Loc}
@@ -14,8 +15,9 @@ use Rattle.ps_memory.specs.Order.{key_cmp}
 use Rattle.ps_memory.specs.Memory.{Content, dictionary, items, characters, value_found, object_found, put_entry, put_item, put_content}
 use Rattle.ps_memory.proofs.Order.{keys_total, keys_antisymmetric, key_is, key_itself}
 use Rattle.vm_content.specs.Content.{slot_in, value_in}
-use Rattle.vm_content.specs.Back.{over_entry, entry_back, content_back}
+use Rattle.vm_content.specs.Back.{over_entry, entry_undone, place_undone, with_entries}
 use Rattle.vm_content.proofs.Keyed.{entry_found, entry_stored}
+use Rattle.vm_content.specs.Maps.{entries_of}
 
 -- ---- entries
 
@@ -26,7 +28,7 @@ pub nothing_over : (es : List (Key × Object)) (k : Key) (x : Object) → lookup
 nothing_over es k x e = ap (over_found k x (from_entries es)) (entry_found es k ∙ e)
 
 pub written_over : (m n : BTreeMap Key Object) (k : Key) (x y : Object) → Some y ≡ lookup (is_at (key_cmp k)) m.entries → WritesThrough key_cmp (key_cmp k) m x n
-    → from_entries {R = key_cmp} n.entries ≡ over_entry k x (from_entries m.entries)
+    → entries_of n ≡ over_entry k x (from_entries m.entries)
 written_over m n k x y was h = entry_stored m.entries n.entries k x (h.3 (subst IsSome was refl)).0 ∙ sym (ap (over_found k x (from_entries m.entries)) (entry_found m.entries k ∙ sym was))
 
 -- maps that differ at one key
@@ -56,7 +58,7 @@ beside k w es q i = get-insert keys_total es k w q ∙ ap (λ b. cond b (Some w)
 put_there : (k : Key) (w : Object) (es : FinMap key_cmp Object) → get (insert es k w) k ≡ Some w
 put_there k w es = get-insert keys_total es k w k ∙ ap (λ b. cond b (Some w) (get es k)) (key_itself k)
 
-put_entry_back : (k : Key) (v : Value) (es : FinMap key_cmp Object) → (value.Absent ≡ v → true ≡ false) → (o : Option Object) → get es k ≡ o → entry_back k (value_found (object_found o)) (put_entry k v es) ≡ es
+put_entry_back : (k : Key) (v : Value) (es : FinMap key_cmp Object) → (value.Absent ≡ v → true ≡ false) → (o : Option Object) → get es k ≡ o → entry_undone k (value_found (object_found o)) (put_entry k v es) ≡ es
 put_entry_back k value.Absent es h o e = absurd (true≢false (h refl))
 put_entry_back k (value.Object w) es h None e = removed_back k es (insert es k w) e (beside k w es)
 put_entry_back k (value.Object w) es h (Some y) e = over_back k y w es (insert es k w) e (put_there k w es) (beside k w es)
@@ -88,7 +90,7 @@ put_item_back i _ xs (Some y) e = set_same xs i y e
 
 -- ---- contents
 
-pub place_back : (l : Loc) (v : Value) (x : Content) (b : Bool) → IsTrue b ↔ (value.Absent ≡ v) → b ≡ false → content_back (slot_in l) (value_in x l) (put_content (slot_in l) v x) ≡ x
+pub place_back : (l : Loc) (v : Value) (x : Content) (b : Bool) → IsTrue b ↔ (value.Absent ≡ v) → b ≡ false → place_undone (slot_in l) (value_in x l) (put_content (slot_in l) v x) ≡ x
 place_back (loc.Entry d k) v (dictionary n a es) b h e = ap (dictionary n a) (put_entry_back k v es (λ i. sym (h.1 i) ∙ e) (get es k) refl)
 place_back (loc.Item a i) v (items xs) b h e = ap items (put_item_back i v xs (slice_get xs i) refl)
 place_back (loc.Entry d k) v (items xs) b h e = refl
@@ -121,3 +123,32 @@ nothing_removed (loc.Keys d) x h = refl
 nothing_removed (loc.Byte d i) x h = refl
 nothing_removed loc.Rand x h = refl
 nothing_removed loc.Paper x h = refl
+
+-- a write that takes away changes the entries alone
+pub entries_back : (l : Loc) (n : ℕ) (a : Access) (es : FinMap key_cmp Object) → with_entries es (put_content (slot_in l) value.Absent (dictionary n a es)) ≡ dictionary n a es
+entries_back (loc.Entry d k) n a es = refl
+entries_back (loc.Keys d) n a es = refl
+entries_back (loc.Access d) n a es = refl
+entries_back (loc.Item d i) n a es = refl
+entries_back (loc.Byte d i) n a es = refl
+entries_back loc.Rand n a es = refl
+entries_back loc.Paper n a es = refl
+
+-- and nothing of what has none
+pub only_entries : (l : Loc) (xs : List Object) → put_content (slot_in l) value.Absent (items xs) ≡ items xs
+only_entries (loc.Entry d k) xs = refl
+only_entries (loc.Keys d) xs = refl
+only_entries (loc.Access d) xs = refl
+only_entries (loc.Item d i) xs = refl
+only_entries (loc.Byte d i) xs = refl
+only_entries loc.Rand xs = refl
+only_entries loc.Paper xs = refl
+
+pub characters_stay : (l : Loc) (n : ℕ) → put_content (slot_in l) value.Absent (characters n) ≡ characters n
+characters_stay (loc.Entry d k) n = refl
+characters_stay (loc.Keys d) n = refl
+characters_stay (loc.Access d) n = refl
+characters_stay (loc.Item d i) n = refl
+characters_stay (loc.Byte d i) n = refl
+characters_stay loc.Rand n = refl
+characters_stay loc.Paper n = refl

@@ -11,10 +11,12 @@ use Rattle.ps_objects.specs.declared.cell.Cell.{Cell}
 use Rattle.ps_objects.specs.declared.cell.SaveName.{SaveName}
 use Rattle.ps_objects.specs.contracts.cell.SpaceOrd.TheImpl as space_order
 use Rattle.ps_memory.specs.Order.{cell_cmp}
+use Rattle.ps_memory.proofs.Places.{mapped, put_at}
 use Rattle.ps_memory.specs.Memory.{put_cell}
 use Rattle.ps_memory.proofs.Order.{cells_total, cells_antisymmetric, cell_is}
 use Rattle.ps_objects.specs.Cell.{comes_after}
 use Rattle.vm_content.proofs.Keyed.{get_entries, one_inserted, one_removed}
+use Rattle.vm_content.specs.Maps.{cells_of}
 
 -- made in a later section, or later in the section of the save
 abbrev pub IsNewer : Cell → SaveName → Type 0
@@ -79,11 +81,27 @@ module _ {X : Type 0} where
 
   -- the same, from what `get_mut` says
   pub cell_written : (m n : BTreeMap Cell X) (k : Cell) (x y : X) (f : X → X) → Some x ≡ lookup (is_at (cell_cmp k)) m.entries → y ≡ f x
-      → WritesThrough cell_cmp (cell_cmp k) m y n → from_entries {R = cell_cmp} n.entries ≡ put_cell k f (from_entries m.entries)
+      → WritesThrough cell_cmp (cell_cmp k) m y n → cells_of n ≡ put_cell k f (from_entries m.entries)
   cell_written m n k x y f was is h = cell_changed m.entries n.entries k x y f (sym was) is (h.3 (subst IsSome was refl)).0
 
   pub cell_missing : (es : List (Cell × X)) (k : Cell) (f : X → X) → lookup (is_at (cell_cmp k)) es ≡ None → put_cell k f (from_entries {R = cell_cmp} es) ≡ from_entries es
   cell_missing es k f was = ap (put_found es k f) (cell_found es k ∙ was)
+
+  itself_mapped : (o : Option X) → mapped (λ x. x) o ≡ o
+  itself_mapped None = refl
+  itself_mapped (Some x) = refl
+
+  put_itself : (k : Cell) (m : FinMap cell_cmp X) → put_cell k (λ x. x) m ≡ m
+  put_itself k m = same_map cells_total cells_antisymmetric (put_cell k (λ x. x) m) m (λ q. put_at k q (λ x. x) m ∙ go q (is_eq (cell_cmp q k)))
+    where
+      go : (q : Cell) (b : Bool) → cond b (mapped (λ x. x) (get m q)) (get m q) ≡ get m q
+      go q true = itself_mapped (get m q)
+      go q false = refl
+
+  -- what is written as it was changes nothing
+  pub cell_unchanged : (m n : BTreeMap Cell X) (k : Cell) (x y : X) → Some x ≡ lookup (is_at (cell_cmp k)) m.entries → y ≡ x
+      → WritesThrough cell_cmp (cell_cmp k) m y n → from_entries {R = cell_cmp} n.entries ≡ from_entries m.entries
+  cell_unchanged m n k x y was is h = cell_written m n k x y (λ x. x) was is h ∙ put_itself k (from_entries m.entries)
 
   -- ---- which cells are kept
 
@@ -120,9 +138,9 @@ module _ {X : Type 0} where
 
   -- ---- the last cell of a map
 
-  pub last_popped : (m n : BTreeMap Cell X) (k : Cell) → Updates cell_cmp m n k None → from_entries {R = cell_cmp} n.entries ≡ remove (from_entries m.entries) k
+  pub last_popped : (m n : BTreeMap Cell X) (k : Cell) → Updates cell_cmp m n k None → cells_of n ≡ remove (from_entries m.entries) k
   last_popped m n k h = cell_removed m.entries n.entries k h.0
 
   -- where the last cell doesn't come after a save, none does
-  pub last_is_greatest : (m : BTreeMap Cell X) (k : Cell) (s : SaveName) → IsUpperBound cell_cmp m k → ¬ (IsNewer k s) → (q : Cell) → IsSome (get (from_entries {R = cell_cmp} m.entries) q) → comes_after q s ≡ false
+  pub last_is_greatest : (m : BTreeMap Cell X) (k : Cell) (s : SaveName) → IsUpperBound cell_cmp m k → ¬ (IsNewer k s) → (q : Cell) → IsSome (get (cells_of m) q) → comes_after q s ≡ false
   last_is_greatest m k s bound old q h = not_after q s (λ n. old (newer_below k q s (bound q (subst IsSome (cell_found m.entries q) h)) n))

@@ -4,3 +4,4 @@ pub mod Ordered
 pub mod Same
 pub mod Back
 pub mod Nexts
+pub mod StringCells

@@ -1,10 +1,11 @@
 -- The values in a cell, by places.
-use Rattle.std.specs.Prelude.{Some}
+use Rattle.std.specs.Prelude.{Option, Some, None}
+use Rattle.ps_objects.specs.declared.cell.Cell.{Cell}
 use Rattle.ps_objects.specs.declared.place.Loc.{Loc}
 use Rattle.ps_objects.specs.declared.place.Loc.TheVariants as loc
 use Rattle.ps_objects.specs.declared.place.Value.{Value}
 use Rattle.ps_objects.specs.declared.place.Value.TheVariants as value
-use Rattle.ps_memory.specs.Memory.{Content, Slot, entry, access, item, whole, in_content, value_found, keys_of}
+use Rattle.ps_memory.specs.Memory.{Content, CellMap, Slot, Spot, held, put_content, put_cell, entry, access, item, whole, in_content, value_found, keys_of}
 
 -- the part of a cell that a place names
 abbrev pub slot_in : Loc → Slot
@@ -23,3 +24,13 @@ value_in x (loc.Keys d) = keys_of (Some x)
 value_in x (loc.Access d) = value_found (in_content (Some x) access)
 value_in x (loc.Item a i) = value_found (in_content (Some x) (item i))
 value_in x _ = value.Absent
+
+-- the cell of whose content a place is a part
+abbrev pub holder : Spot → Option Cell
+holder (held c t) = Some c
+holder _ = None
+
+-- the cells with a value at a place of theirs
+abbrev pub put_held : Spot → Value → CellMap → CellMap
+put_held (held c t) v m = put_cell c (put_content t v) m
+put_held _ v m = m

@@ -1,3 +1,4 @@
+pub mod Maps
 pub mod Content
 pub mod Seen
 pub mod Coding

@@ -5,10 +5,11 @@ use Rattle.ps_memory.specs.Order.{key_cmp}
 use Rattle.ps_memory.specs.Memory.{Content, dictionary, items, characters}
 use Rattle.vm_content.specs.declared.content.Inner.{Inner}
 use Rattle.vm_content.specs.declared.content.Inner.TheVariants.{Dictionary, Items, Characters}
+use Rattle.vm_content.specs.Maps.{entries_of}
 
 -- the fields of a content, seen as the definition of memory has them
 abbrev pub seen : Inner → Content
-seen (Dictionary alloc capacity rights entries) = dictionary capacity rights (from_entries {R = key_cmp} entries.entries)
+seen (Dictionary alloc capacity rights entries) = dictionary capacity rights (entries_of entries)
 seen (Items xs) = items xs.items
 seen (Characters n) = characters n
 

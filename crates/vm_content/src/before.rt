@@ -1,18 +1,17 @@
 //! What a write to a content changed.
 ghost use Rattle.std.specs.Prelude.{◌≡◌, IfOk};
 ghost use Rattle.ps_objects.specs.declared.place.Value.TheVariants as values;
-ghost use Rattle.std.specs.FinMap.{from_entries, remove};
-ghost use Rattle.ps_memory.specs.Order.{cell_cmp};
-ghost use Rattle.ps_memory.specs.Memory.{put_content, put_cell};
+ghost use Rattle.ps_memory.specs.Memory.{put_content};
 ghost use Rattle.vm_content.specs.Content.{slot_in};
-ghost use Rattle.vm_content.specs.Back.{given_back};
+ghost use Rattle.vm_content.specs.Back.{with_entries, content_undone};
+ghost use Rattle.vm_content.specs.Maps.{entries_of};
 
-use crate::content::is_absent;
-use crate::{Bytes, Content};
-use ps_objects::{Cell, Loc, NoMemory, Value};
+use crate::content::{Inner, is_absent};
+use crate::{Content, copy_map};
+use ps_objects::{Key, Loc, NoMemory, Object, Value};
 use std::collections::BTreeMap;
 
-/// What a write to a content changed. To give it back takes no memory.
+/// What a write to a content changed. To take the write back takes no memory.
 #[derive(Drop)]
 pub enum Before {
     /// Nothing was changed.
@@ -21,15 +20,15 @@ pub enum Before {
     /// A place held this. An entry that held an object has one still.
     Place { at: Loc, value: Value },
 
-    /// The content was this.
-    Whole(Content),
+    /// A dictionary had these entries.
+    Entries(BTreeMap<Key, Object>),
 }
 
 impl Content {
     /// What a write of the value at a place will change.
     #[tactic(auto, using(crate::proofs::Back::place_back))]
     pub fn before(&self, at: &Loc, value: &Value) -> Result<Before, NoMemory>
-        ensures { IfOk result (λ before. given_back before (put_content (slot_in at.now) value.now self.now) ≡ self.now) }
+        ensures { IfOk result (λ before. content_undone before (put_content (slot_in at.now) value.now self.now) ≡ self.now) }
     {
         if is_absent(value) {
             return self.before_removal(at);
@@ -40,51 +39,39 @@ impl Content {
         })
     }
 
-    /// To put an entry back that was taken away could want memory, so the content is copied.
-    #[tactic(auto, using(crate::proofs::Back::nothing_removed))]
+    /// To put an entry back that was taken away could want memory, so the entries are copied.
+    #[tactic(auto, using(crate::proofs::Back::nothing_removed, crate::proofs::Back::entries_back, crate::proofs::Back::only_entries, crate::proofs::Back::characters_stay))]
     fn before_removal(&self, at: &Loc) -> Result<Before, NoMemory>
-        ensures { IfOk result (λ before. given_back before (put_content (slot_in at.now) values.Absent self.now) ≡ self.now) }
+        ensures { IfOk result (λ before. content_undone before (put_content (slot_in at.now) values.Absent self.now) ≡ self.now) }
     {
         if self.holds(at, &Value::Absent) {
             return Ok(Before::Same);
         }
-        Ok(Before::Whole(self.copy()?))
+        match &self.inner {
+            Inner::Dictionary { alloc, entries, .. } => Ok(Before::Entries(copy_map(
+                *alloc, entries,
+            )?)),
+            Inner::Items(_) | Inner::Characters(_) => Ok(Before::Same),
+        }
     }
 
-    /// Gives back what a write changed.
-    pub fn give_back(&mut self, before: Before)
-        ensures { self.new ≡ given_back before self.old }
+    /// Takes a write back.
+    pub fn undo(&mut self, before: Before)
+        ensures { self.new ≡ content_undone before self.old }
     {
         match before {
             Before::Same => {}
-            Before::Place { at, value } => self.put_back(&at, value),
-            Before::Whole(content) => *self = content,
+            Before::Place { at, value } => self.undo_place(&at, value),
+            Before::Entries(entries) => self.set_entries(entries),
         }
     }
-}
 
-/// Gives back what a write to a cell changed.
-#[tactic(auto, using(crate::proofs::Cells::cell_written, crate::proofs::Cells::cell_missing))]
-pub fn give_cell_back(cells: &mut BTreeMap<Cell, Content>, cell: Cell, before: Before)
-    ensures { from_entries {R = cell_cmp} cells.new.entries ≡ put_cell cell (given_back before) (from_entries {R = cell_cmp} cells.old.entries) }
-{
-    if let Some(content) = cells.get_mut(&cell) {
-        content.give_back(before);
+    /// A dictionary's entries are these.
+    fn set_entries(&mut self, all: BTreeMap<Key, Object>)
+        ensures { self.new ≡ with_entries (entries_of all) self.old }
+    {
+        if let Inner::Dictionary { entries, .. } = &mut self.inner {
+            *entries = all;
+        }
     }
-}
-
-/// Takes a cell away.
-#[tactic(auto, using(crate::proofs::Cells::cell_removed))]
-pub fn forget_cell(cells: &mut BTreeMap<Cell, Content>, cell: Cell)
-    ensures { from_entries {R = cell_cmp} cells.new.entries ≡ remove (from_entries {R = cell_cmp} cells.old.entries) cell }
-{
-    cells.remove(&cell);
-}
-
-/// Takes the bytes of a string away.
-#[tactic(auto, using(crate::proofs::Cells::cell_removed))]
-pub fn forget_bytes(strings: &mut BTreeMap<Cell, Bytes>, string: Cell)
-    ensures { from_entries {R = cell_cmp} strings.new.entries ≡ remove (from_entries {R = cell_cmp} strings.old.entries) string }
-{
-    strings.remove(&string);
 }

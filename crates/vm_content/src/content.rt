@@ -8,7 +8,8 @@ ghost use Rattle.std.specs.Cmp.Lexicographic.{pointwise};
 ghost use Rattle.std.specs.BTreeMap.{keys as map_keys, IsOrdered};
 ghost use Rattle.ps_objects.specs.contracts.key.KeyPartialEq.TheImpl as key_eq;
 ghost use Rattle.vm_content.specs.Content.{slot_in, value_in};
-ghost use Rattle.vm_content.specs.Back.{over_entry, entry_back, content_back};
+ghost use Rattle.vm_content.specs.Back.{over_entry, entry_undone, place_undone};
+ghost use Rattle.vm_content.specs.Maps.{entries_of};
 
 use crate::copying::{copy_items, copy_map};
 use ps_objects::{Access, Duplicate, Key, Keys, Kind, Loc, NoMemory, Object, Shape, Value};
@@ -20,11 +21,11 @@ use std::marker::Model;
 /// (section 3.3 of the language manual: data types and objects).
 #[derive(Drop)]
 pub struct Content {
-    inner: Inner,
+    pub(crate) inner: Inner,
 }
 
 #[derive(Drop)]
-enum Inner {
+pub(crate) enum Inner {
     Dictionary {
         alloc: Global,
         capacity: u32,
@@ -58,7 +59,7 @@ impl Content {
         access: Access,
         entries: BTreeMap<Key, Object>,
     ) -> Content
-        ensures { result ≡ dictionary capacity access (from_entries {R = key_cmp} entries.entries) }
+        ensures { result ≡ dictionary capacity access (entries_of entries) }
     {
         Content {
             inner: Inner::Dictionary {
@@ -146,11 +147,11 @@ impl Content {
     }
 
     /// Puts back what a place held before. It takes no memory, since an object is put only where one is.
-    pub fn put_back(&mut self, at: &Loc, value: Value)
-        ensures { self.new ≡ content_back (slot_in at.now) value self.old }
+    pub fn undo_place(&mut self, at: &Loc, value: Value)
+        ensures { self.new ≡ place_undone (slot_in at.now) value self.old }
     {
         match at {
-            Loc::Entry { key, .. } => self.put_entry_back(key, value),
+            Loc::Entry { key, .. } => self.undo_entry(key, value),
             Loc::Access { .. } => self.put_access(value),
             Loc::Item { at, .. } => self.put_item(*at, value),
             _ => {}
@@ -262,11 +263,11 @@ impl Content {
         }
     }
 
-    fn put_entry_back(&mut self, key: &Key, value: Value)
-        ensures { self.new ≡ content_back (entry key.now) value self.old }
+    fn undo_entry(&mut self, key: &Key, value: Value)
+        ensures { self.new ≡ place_undone (entry key.now) value self.old }
     {
         if let Inner::Dictionary { entries, .. } = &mut self.inner {
-            put_entry_back(entries, key, value);
+            undo_entry(entries, key, value);
         }
     }
 
@@ -379,7 +380,7 @@ fn are_keys(entries: &BTreeMap<Key, Object>, keys: &[Key]) -> bool
 
 #[tactic(auto, using(crate::proofs::Keyed::entry_stored, crate::proofs::Keyed::entry_removed))]
 fn put_entry(entries: &mut BTreeMap<Key, Object>, key: &Key, value: Value) -> Result<(), NoMemory>
-    ensures ok { OnOk result (from_entries {R = key_cmp} entries.new.entries ≡ put_entry key.now value (from_entries {R = key_cmp} entries.old.entries)) }
+    ensures ok { OnOk result (entries_of entries.new ≡ put_entry key.now value (entries_of entries.old)) }
     ensures err { OnErr result (entries.new.entries ≡ entries.old.entries) }
 {
     match value {
@@ -395,8 +396,8 @@ fn put_entry(entries: &mut BTreeMap<Key, Object>, key: &Key, value: Value) -> Re
 }
 
 #[tactic(auto, using(crate::proofs::Keyed::entry_removed))]
-fn put_entry_back(entries: &mut BTreeMap<Key, Object>, key: &Key, value: Value)
-    ensures { from_entries {R = key_cmp} entries.new.entries ≡ entry_back key.now value (from_entries {R = key_cmp} entries.old.entries) }
+fn undo_entry(entries: &mut BTreeMap<Key, Object>, key: &Key, value: Value)
+    ensures { entries_of entries.new ≡ entry_undone key.now value (entries_of entries.old) }
 {
     match value {
         Value::Absent => {
@@ -410,7 +411,7 @@ fn put_entry_back(entries: &mut BTreeMap<Key, Object>, key: &Key, value: Value)
 /// Puts an object in place of another, where there is one.
 #[tactic(auto, using(crate::proofs::Back::nothing_over, crate::proofs::Back::written_over))]
 fn replace_entry(entries: &mut BTreeMap<Key, Object>, key: &Key, object: Object)
-    ensures { from_entries {R = key_cmp} entries.new.entries ≡ over_entry key.now object (from_entries {R = key_cmp} entries.old.entries) }
+    ensures { entries_of entries.new ≡ over_entry key.now object (entries_of entries.old) }
 {
     if let Some(old) = entries.get_mut(key) {
         *old = object;

@@ -3,6 +3,7 @@ ghost use Rattle.std.specs.Prelude.{◌≡◌};
 ghost use Rattle.std.specs.FinMap.{from_entries};
 ghost use Rattle.ps_memory.specs.Order.{cell_cmp};
 ghost use Rattle.vm_content.specs.Next.{bound_after, is_in, IsNextIn};
+ghost use Rattle.vm_content.specs.Maps.{cells_of};
 
 use crate::Content;
 use ps_objects::{Cell, Shape, Space};
@@ -18,7 +19,7 @@ pub fn next_in(
     space: Space,
     after: Option<Cell>,
 ) -> Option<(Cell, Shape)>
-    ensures { IsNextIn space (from_entries {R = cell_cmp} cells.now.entries) after result }
+    ensures { IsNextIn space (cells_of cells.now) after result }
 {
     for (cell, content) in cells.range((bound_after(after), Bound::Unbounded)) {
         if is_in(space, *cell) {

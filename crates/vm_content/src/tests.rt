@@ -1,4 +1,4 @@
-use crate::{Before, Bytes, Content, copy_map, forget_bytes, forget_cell, give_cell_back, next_in};
+use crate::{Before, Bytes, Content, copy_map, next_in, remove_bytes, remove_cell, undo_in_cell};
 use ps_objects::{Access, Cell, Duplicate, Key, Kind, Loc, Object, Shape, Space, Value};
 use std::collections::BTreeMap;
 use std::test::Fail;
@@ -42,9 +42,9 @@ fn contents_hold_what_was_put(rt: HostRuntime) -> Result<(), Fail> {
 
     let before = dictionary.before(&entry(2), &number(21))?;
     dictionary.put(&entry(2), number(21))?;
-    dictionary.give_back(before);
+    dictionary.undo(before);
     assert!(rt; dictionary.holds(&entry(2), &number(20)));
-    dictionary.put_back(&entry(2), number(22));
+    dictionary.undo_place(&entry(2), number(22));
     assert!(rt; dictionary.copy()?.holds(&entry(2), &number(22)));
 
     let mut array = Content::fresh(rt.alloc(), Shape::Array { len: 2 })?;
@@ -74,8 +74,8 @@ fn maps_of_cells_are_copied_and_followed(rt: HostRuntime) -> Result<(), Fail> {
     let next = next_in(&copy, Space::Local, Some(cell(1)));
     assert!(rt; next == Some((cell(3), Shape::Str { len: 4 })));
     assert!(rt; next_in(&copy, Space::Local, Some(cell(3))).is_none());
-    give_cell_back(&mut copy, cell(1), Before::Same);
-    forget_cell(&mut copy, cell(3));
+    undo_in_cell(&mut copy, cell(1), Before::Same);
+    remove_cell(&mut copy, cell(3));
     assert!(rt; copy.len() == 1);
 
     let mut bytes = Bytes::zeros(rt.alloc(), 2)?;
@@ -85,7 +85,7 @@ fn maps_of_cells_are_copied_and_followed(rt: HostRuntime) -> Result<(), Fail> {
     assert!(rt; bytes.copy()?.get(1) == Some(7));
     let mut strings = BTreeMap::new(rt.alloc());
     strings.insert(cell(3), Bytes::from_slice(rt.alloc(), b"ab")?.duplicate()?)?;
-    forget_bytes(&mut strings, cell(3));
+    remove_bytes(&mut strings, cell(3));
     assert!(rt; strings.is_empty());
     Ok(())
 }

@@ -22,9 +22,9 @@ use Rattle.ps_memory.proofs.Places.{mapped, put_at, kept_at}
 use Rattle.ps_memory.proofs.Stored.{no_whole}
 use Rattle.ps_memory.proofs.Replace.{put_swap, put_over, content_swap, content_over}
 use Rattle.ps_memory.proofs.Keeping.{same_maps, keep, keep_change, keep_put}
-use Rattle.vm_content.specs.Content.{slot_in, value_in}
+use Rattle.vm_content.specs.Content.{slot_in, value_in, put_held}
 use Rattle.vm_content.proofs.Keyed.{get_entries}
-use Rattle.vm_journal.specs.Journal.{loc_cmp, Note, Saved, put_held, reverted, as_saved, all_of_kind}
+use Rattle.vm_journal.specs.Journal.{loc_cmp, Note, Saved, cells_reverted, as_saved, all_of_kind}
 use Rattle.vm_journal.proofs.Places.{loc_is, loc_itself, spots_apart}
 
 -- ---- one place
@@ -53,18 +53,18 @@ not_there : {X Y : Type 0} (x : X) → Some x ≡ None → Y
 not_there x e = cc
 
 -- a place that is noted may be changed
-pub noted_put : (l : Loc) (v : Value) (notes : List Note) (m : CellMap) (w : Value) → all_of_kind notes ≡ true → lookup (is_at (loc_cmp l)) notes ≡ Some w → reverted notes (put_held (spot_of l) v m) ≡ reverted notes m
+pub noted_put : (l : Loc) (v : Value) (notes : List Note) (m : CellMap) (w : Value) → all_of_kind notes ≡ true → lookup (is_at (loc_cmp l)) notes ≡ Some w → cells_reverted notes (put_held (spot_of l) v m) ≡ cells_reverted notes m
 noted_put l v [] m w k h = cc
 noted_put l v (e ∷ notes) m w k h = go (is_at (loc_cmp l) e.0) refl (noted_put l v notes (put_held (spot_of e.0) e.1 m) w (second_so _ _ k))
   where
     go : (b : Bool) → is_at (loc_cmp l) e.0 ≡ b
-        → (lookup (is_at (loc_cmp l)) notes ≡ Some w → reverted notes (put_held (spot_of l) v (put_held (spot_of e.0) e.1 m)) ≡ reverted notes (put_held (spot_of e.0) e.1 m))
-        → reverted notes (put_held (spot_of e.0) e.1 (put_held (spot_of l) v m)) ≡ reverted notes (put_held (spot_of e.0) e.1 m)
-    go true i rest = ap (reverted notes) (ap (λ q. put_held (spot_of e.0) e.1 (put_held (spot_of q) v m)) (loc_is l e.0 i) ∙ held_over (spot_of e.0) e.1 v m (first_so _ _ k))
-    go false i rest = ap (reverted notes) (held_swap (spot_of e.0) (spot_of l) e.1 v m (spots_apart l e.0 i)) ∙ rest (sym (ap (λ b. cond b (Some e.1) (lookup (is_at (loc_cmp l)) notes)) i) ∙ h)
+        → (lookup (is_at (loc_cmp l)) notes ≡ Some w → cells_reverted notes (put_held (spot_of l) v (put_held (spot_of e.0) e.1 m)) ≡ cells_reverted notes (put_held (spot_of e.0) e.1 m))
+        → cells_reverted notes (put_held (spot_of e.0) e.1 (put_held (spot_of l) v m)) ≡ cells_reverted notes (put_held (spot_of e.0) e.1 m)
+    go true i rest = ap (cells_reverted notes) (ap (λ q. put_held (spot_of e.0) e.1 (put_held (spot_of q) v m)) (loc_is l e.0 i) ∙ held_over (spot_of e.0) e.1 v m (first_so _ _ k))
+    go false i rest = ap (cells_reverted notes) (held_swap (spot_of e.0) (spot_of l) e.1 v m (spots_apart l e.0 i)) ∙ rest (sym (ap (λ b. cond b (Some e.1) (lookup (is_at (loc_cmp l)) notes)) i) ∙ h)
 
 -- a note at a place that has none is put back first or later alike
-pub noted_anew : (l : Loc) (v : Value) (notes : List Note) (m : CellMap) → lookup (is_at (loc_cmp l)) notes ≡ None → reverted (insert_entry loc_cmp notes l v) m ≡ reverted notes (put_held (spot_of l) v m)
+pub noted_anew : (l : Loc) (v : Value) (notes : List Note) (m : CellMap) → lookup (is_at (loc_cmp l)) notes ≡ None → cells_reverted (insert_entry loc_cmp notes l v) m ≡ cells_reverted notes (put_held (spot_of l) v m)
 noted_anew l v [] m h = refl
 noted_anew l v (e ∷ notes) m h = go (loc_cmp l e.0) refl (noted_anew l v notes (put_held (spot_of e.0) e.1 m))
   where
@@ -72,11 +72,11 @@ noted_anew l v (e ∷ notes) m h = go (loc_cmp l e.0) refl (noted_anew l v notes
     apart i = sym (ap (λ b. cond b (Some e.1) (lookup (is_at (loc_cmp l)) notes)) i) ∙ h
 
     go : (r : Ordering) → loc_cmp l e.0 ≡ r
-        → (lookup (is_at (loc_cmp l)) notes ≡ None → reverted (insert_entry loc_cmp notes l v) (put_held (spot_of e.0) e.1 m) ≡ reverted notes (put_held (spot_of l) v (put_held (spot_of e.0) e.1 m)))
-        → reverted (match_ordering r ((l, v) ∷ e ∷ notes) ((e.0, v) ∷ notes) (e ∷ insert_entry loc_cmp notes l v)) m ≡ reverted notes (put_held (spot_of e.0) e.1 (put_held (spot_of l) v m))
+        → (lookup (is_at (loc_cmp l)) notes ≡ None → cells_reverted (insert_entry loc_cmp notes l v) (put_held (spot_of e.0) e.1 m) ≡ cells_reverted notes (put_held (spot_of l) v (put_held (spot_of e.0) e.1 m)))
+        → cells_reverted (match_ordering r ((l, v) ∷ e ∷ notes) ((e.0, v) ∷ notes) (e ∷ insert_entry loc_cmp notes l v)) m ≡ cells_reverted notes (put_held (spot_of e.0) e.1 (put_held (spot_of l) v m))
     go Less i rest = refl
     go Equal i rest = not_there e.1 (sym (ap (λ b. cond b (Some e.1) (lookup (is_at (loc_cmp l)) notes)) (ap is_eq i)) ∙ h)
-    go Greater i rest = rest (apart (ap is_eq i)) ∙ ap (reverted notes) (sym (held_swap (spot_of e.0) (spot_of l) e.1 v m (spots_apart l e.0 (ap is_eq i))))
+    go Greater i rest = rest (apart (ap is_eq i)) ∙ ap (cells_reverted notes) (sym (held_swap (spot_of e.0) (spot_of l) e.1 v m (spots_apart l e.0 (ap is_eq i))))
 
 -- the notes with one more are of their kinds, and have it
 pub kinds_kept : (l : Loc) (v : Value) (notes : List Note) → all_of_kind notes ≡ true → is_kind (spot_of l) v ≡ true → is_some (lookup (is_at (loc_cmp l)) notes) ≡ false → all_of_kind (insert_entry loc_cmp notes l v) ≡ true
@@ -150,18 +150,18 @@ old_cell : (s : SaveName) (c : Cell) (m : CellMap) → newer c s ≡ false → g
 old_cell s c m h = kept_at s c m ∙ ap (λ b. cond (not b) (get m c) None) h
 
 pub newer_put : (s : Saved) (c : Cell) (t : Slot) (v : Value) (m : CellMap) → newer c s.0 ≡ true → as_saved s (put_held (held c t) v m) ≡ as_saved s m
-newer_put s c t v m h = ap (reverted s.1) (keep_change s.0 c m (put_cell c (put_content t v) m) h (λ d e. put_at c d (put_content t v) m ∙ ap (λ b. cond b (mapped (put_content t v) (get m d)) (get m d)) e))
+newer_put s c t v m h = ap (cells_reverted s.1) (keep_change s.0 c m (put_cell c (put_content t v) m) h (λ d e. put_at c d (put_content t v) m ∙ ap (λ b. cond b (mapped (put_content t v) (get m d)) (get m d)) e))
 
 -- a note of what a place holds changes nothing
 pub note_same : (s : SaveName) (notes : List Note) (l : Loc) (c : Cell) (t : Slot) (x : Content) (m : CellMap) → spot_of l ≡ held c t → newer c s ≡ false → get m c ≡ Some x
     → lookup (is_at (loc_cmp l)) notes ≡ None → as_saved (s, insert_entry loc_cmp notes l (value_found (in_content (Some x) t))) m ≡ as_saved (s, notes) m
 note_same s notes l c t x m p h e n = noted_anew l (value_found (in_content (Some x) t)) notes (keep s m) n
-    ∙ ap (reverted notes) (ap (λ q. put_held q (value_found (in_content (Some x) t)) (keep s m)) p ∙ cell_same c (put_content t (value_found (in_content (Some x) t))) (keep s m) x (old_cell s c m h ∙ e) (content_same t x))
+    ∙ ap (cells_reverted notes) (ap (λ q. put_held q (value_found (in_content (Some x) t)) (keep s m)) p ∙ cell_same c (put_content t (value_found (in_content (Some x) t))) (keep s m) x (old_cell s c m h ∙ e) (content_same t x))
 
 -- and then the place may be changed
 pub put_noted : (s : SaveName) (notes : List Note) (l : Loc) (c : Cell) (t : Slot) (w v : Value) (m : CellMap) → spot_of l ≡ held c t → newer c s ≡ false → all_of_kind notes ≡ true
     → lookup (is_at (loc_cmp l)) notes ≡ Some w → as_saved (s, notes) (put_held (spot_of l) v m) ≡ as_saved (s, notes) m
-put_noted s notes l c t w v m p h k e = ap (reverted notes) (ap (λ q. keep s (put_held q v m)) p ∙ keep_put s c (put_content t v) m ∙ ap (λ q. put_held q v (keep s m)) (sym p))
+put_noted s notes l c t w v m p h k e = ap (cells_reverted notes) (ap (λ q. keep s (put_held q v m)) p ∙ keep_put s c (put_content t v) m ∙ ap (λ q. put_held q v (keep s m)) (sym p))
     ∙ noted_put l v notes (keep s m) w k e
 
 -- ---- the calls of a save

@@ -2,25 +2,21 @@
 use Rattle.std.proofs.Common.{◌≡◌, ℕ, suc, ◌-◌, ◌<◌, Bool, true, false, cond, ◌&&◌, List, [], ◌∷◌, ◌++◌, length, Option, Some, None, refl, sym, ap, ◌∙◌, slice_set, slice_index_or, reverse, true≢false, Result, Ok, Err, OnOk, arith}
 use Rattle.std.proofs.lemmas.List.{reverse-append}
 use Rattle.std.specs.Cmp.{first_so, second_so}
-use Rattle.std.specs.FinMap.{get, insert, from_entries, get-insert}
-use Rattle.std.specs.Map.{lookup}
-use Rattle.std.specs.BTreeMap.{BTreeMap, is_at, WritesThrough}
+use Rattle.std.specs.FinMap.{get, insert, get-insert}
 use Rattle.std.specs.List.{AllByRecursion}
 use Rattle.ps_objects.specs.declared.cell.Cell.{Cell}
 use Rattle.ps_objects.specs.declared.cell.SaveName.{SaveName}
 use Rattle.ps_objects.specs.declared.place.Loc.{Loc}
 use Rattle.ps_objects.specs.declared.place.Value.{Value}
-use Rattle.ps_memory.specs.Order.{cell_cmp}
 use Rattle.ps_memory.specs.Memory.{is_global, newer, Content, CellMap, Slot, Spot, held, byte, rand, paper, spot_of, put_content, put_cell}
 use Rattle.ps_memory.specs.Ownership.{same_cell}
 use Rattle.ps_memory.specs.Frame.{later}
 use Rattle.ps_memory.proofs.Order.{cells_total, cell_is}
 use Rattle.ps_memory.proofs.Places.{mapped, put_at}
 use Rattle.ps_memory.proofs.Keeping.{keep_all, keep_change}
-use Rattle.vm_content.proofs.Cells.{cell_found, cell_written}
-use Rattle.vm_journal.specs.Journal.{Saved, put_held, reverted, as_saved, copies, is_latest, is_rising}
+use Rattle.vm_journal.specs.Journal.{Saved, cells_reverted, as_saved, copies, is_latest, is_rising}
+use Rattle.vm_content.specs.Content.{put_held}
 use Rattle.vm_journal.specs.Part.{Part, AreLocal}
-use Rattle.vm_journal.proofs.Noting.{cell_same}
 
 -- ---- the last of a list
 
@@ -81,7 +77,7 @@ newest_rising xs x y h is p =
 pub copies_insert : (saves : List Saved) (m : CellMap) (c : Cell) (x : Content) → AllByRecursion (λ k. newer c k.0 ≡ true) (copies saves m) → copies saves (insert m c x) ≡ copies saves m
 copies_insert [] m c x h = refl
 copies_insert (s ∷ saves) m c x h = same_copies s s saves (insert m c x) m refl
-    (ap (reverted s.1) (keep_change s.0 c m (insert m c x) h.0 (λ d e. get-insert cells_total m c x d ∙ ap (λ b. cond b (Some x) (get m d)) e)))
+    (ap (cells_reverted s.1) (keep_change s.0 c m (insert m c x) h.0 (λ d e. get-insert cells_total m c x d ∙ ap (λ b. cond b (Some x) (get m d)) e)))
 
 pub opened_copies : (name : SaveName) (saves : List Saved) (m : CellMap) → ((c : Cell) → newer c name ≡ true → get m c ≡ None) → copies ((name, []) ∷ saves) m ≡ (name, m) ∷ copies saves m
 opened_copies name saves m h = ap (λ n. (name, n) ∷ copies saves n) (keep_all name m h)
@@ -147,7 +143,3 @@ local_put m n p v e h q i = ap (λ o. get o q) e ∙ none_held p q v m (h q i)
 
 pub local_same : (m n : CellMap) → n ≡ m → AreLocal m → AreLocal n
 local_same m n e h q i = ap (λ o. get o q) e ∙ h q i
-
--- what was there is written back
-pub written_back : (m n : BTreeMap Cell Content) (k : Cell) (x y : Content) → Some x ≡ lookup (is_at (cell_cmp k)) m.entries → y ≡ x → WritesThrough cell_cmp (cell_cmp k) m y n → from_entries {R = cell_cmp} n.entries ≡ from_entries m.entries
-written_back m n k x y was is h = cell_written m n k x y (λ z. z) was is h ∙ cell_same k (λ z. z) (from_entries m.entries) x (cell_found m.entries k ∙ sym was) refl

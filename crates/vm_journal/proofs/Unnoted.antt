@@ -7,7 +7,7 @@ use Rattle.ps_memory.specs.Memory.{Content, CellMap, put_cell}
 use Rattle.ps_memory.specs.Ownership.{same_cell}
 use Rattle.ps_memory.proofs.Order.{cells_total}
 use Rattle.ps_memory.proofs.Places.{mapped, put_at}
-use Rattle.vm_content.specs.Back.{given_back}
+use Rattle.vm_content.specs.Back.{content_undone}
 use Rattle.vm_content.specs.declared.before.Before.{Before}
 use Rattle.vm_journal.specs.Journal.{Saved, copies}
 use Rattle.vm_journal.specs.Part.{Part, AreLocal, is_empty}
@@ -46,9 +46,9 @@ part_changed p saves m n f e none h =
     let gone = ap (λ ss. copies ss n) closed ∙ sym none in
     λ i. record { cells = same i; kept = gone i }
 
-pub part_given : (p : Part) (saves : List Saved) (m n : CellMap) (c : Cell) (b : Before) → ◌≡◌ {A = Part} (record { cells = m; kept = copies saves m }) p → p.kept ≡ [] → n ≡ put_cell c (given_back b) m
-    → ◌≡◌ {A = Part} (record { cells = n; kept = copies saves n }) (record { cells = put_cell c (given_back b) p.cells; kept = p.kept })
-part_given p saves m n c b e none h = part_changed p saves m n (put_cell c (given_back b)) e none h
+pub part_given : (p : Part) (saves : List Saved) (m n : CellMap) (c : Cell) (b : Before) → ◌≡◌ {A = Part} (record { cells = m; kept = copies saves m }) p → p.kept ≡ [] → n ≡ put_cell c (content_undone b) m
+    → ◌≡◌ {A = Part} (record { cells = n; kept = copies saves n }) (record { cells = put_cell c (content_undone b) p.cells; kept = p.kept })
+part_given p saves m n c b e none h = part_changed p saves m n (put_cell c (content_undone b)) e none h
 
 pub part_forgotten : (p : Part) (saves : List Saved) (m n : CellMap) (c : Cell) → ◌≡◌ {A = Part} (record { cells = m; kept = copies saves m }) p → p.kept ≡ [] → n ≡ remove m c
     → ◌≡◌ {A = Part} (record { cells = n; kept = copies saves n }) (record { cells = remove p.cells c; kept = p.kept })

@@ -1,14 +1,14 @@
 -- The journal: for each open save, what the places that were changed since held then.
-use Rattle.std.specs.Prelude.{Bool, true, ◌&&◌, not, List, [], ◌∷◌, Option, Some, None}
+use Rattle.std.specs.Prelude.{Bool, true, ◌&&◌, not, List, [], ◌∷◌}
 use Rattle.std.specs.FinMap.{retain_keys}
 use Rattle.std.specs.declared.cmp.Ordering.{Ordering}
 use Rattle.ps_objects.specs.contracts.place.LocOrd.TheImpl as loc_order
-use Rattle.ps_objects.specs.declared.cell.Cell.{Cell}
 use Rattle.ps_objects.specs.declared.cell.SaveName.{SaveName}
 use Rattle.ps_objects.specs.declared.place.Loc.{Loc}
 use Rattle.ps_objects.specs.declared.place.Value.{Value}
-use Rattle.ps_memory.specs.Memory.{newer, CellMap, Spot, held, spot_of, put_content, put_cell, is_kind}
+use Rattle.ps_memory.specs.Memory.{newer, CellMap, spot_of, is_kind}
 use Rattle.ps_memory.specs.Frame.{later}
+use Rattle.vm_content.specs.Content.{put_held}
 
 -- the order of places
 abbrev pub loc_cmp : Loc → Loc → Ordering
@@ -22,19 +22,14 @@ Note = Loc × Value
 abbrev pub Saved : Type 0
 Saved = SaveName × List Note
 
--- the cells with a value at a place of theirs
-abbrev pub put_held : Spot → Value → CellMap → CellMap
-put_held (held c t) v m = put_cell c (put_content t v) m
-put_held _ v m = m
-
 -- the cells with what was noted put back
-abbrev pub reverted : List Note → CellMap → CellMap
-reverted [] m = m
-reverted (e ∷ notes) m = reverted notes (put_held (spot_of e.0) e.1 m)
+abbrev pub cells_reverted : List Note → CellMap → CellMap
+cells_reverted [] m = m
+cells_reverted (e ∷ notes) m = cells_reverted notes (put_held (spot_of e.0) e.1 m)
 
 -- the cells as they were at a save: those that are newer go, and what was noted comes back
 abbrev pub as_saved : Saved → CellMap → CellMap
-as_saved s m = reverted s.1 (retain_keys m (λ c. not (newer c s.0)))
+as_saved s m = cells_reverted s.1 (retain_keys m (λ c. not (newer c s.0)))
 
 -- What a journal means: the copies of the local part that the open saves keep, the newest first. Each is the next newer one, or
 -- the cells as they are now, with its own notes put back.
@@ -56,8 +51,3 @@ is_latest s (r ∷ saves) = later s r.0 && is_latest s saves
 abbrev pub is_rising : List Saved → Bool
 is_rising [] = true
 is_rising (s ∷ saves) = is_latest s.0 saves && is_rising saves
-
--- the cell of whose content a place is a part
-abbrev pub holder : Spot → Option Cell
-holder (held c t) = Some c
-holder _ = None

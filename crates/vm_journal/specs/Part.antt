@@ -11,6 +11,7 @@ use Rattle.ps_objects.specs.contracts.cell.SaveName as saves
 use Rattle.ps_memory.specs.Order.{cell_cmp}
 use Rattle.ps_memory.specs.Memory.{is_global, newer, CellMap}
 use Rattle.ps_memory.specs.Frame.{later}
+use Rattle.ps_memory.specs.Holders.{holds_string}
 use Rattle.vm_content.specs.Coding.{content_code}
 
 -- the local cells, and the copies that the open saves keep, the newest first
@@ -38,9 +39,9 @@ part_code = code_by (CellMap × List (SaveName × CellMap)) (coded× cells_code 
 abbrev pub kept_from : {X : Type 0} → SaveName → FinMap cell_cmp X → FinMap cell_cmp X
 kept_from s m = retain_keys m (λ c. not (newer c s))
 
--- each local string is a local cell's
+-- bytes of local strings stand under the cells of strings alone
 abbrev pub HaveCells : FinMap cell_cmp (List ℕ) → CellMap → Type 0
-HaveCells strings m = (c : Cell) → is_global c ≡ false → get m c ≡ None → get strings c ≡ None
+HaveCells strings m = (c : Cell) → is_global c ≡ false → holds_string (get m c) ≡ false → get strings c ≡ None
 
 -- What closing the newest save leaves: nothing changes where none is open. Else its copy is in place, the strings that are newer than
 -- it are gone, and the older saves stay, whose names are all earlier.

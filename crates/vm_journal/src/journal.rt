@@ -5,8 +5,9 @@ ghost use Rattle.std.specs.BTreeMap.{is_at, insert_entry};
 ghost use Rattle.std.specs.FinMap.{get, from_entries};
 ghost use Rattle.ps_memory.specs.Order.{cell_cmp};
 ghost use Rattle.ps_memory.specs.Memory.{newer, is_slot, is_kind, held, spot_of};
-ghost use Rattle.vm_content.specs.Content.{slot_in};
-ghost use Rattle.vm_journal.specs.Journal.{loc_cmp, as_saved, put_held};
+ghost use Rattle.vm_content.specs.Content.{slot_in, put_held};
+ghost use Rattle.vm_journal.specs.Journal.{loc_cmp, as_saved};
+ghost use Rattle.vm_content.specs.Maps.{cells_of};
 
 use ps_objects::{Cell, Loc, NoMemory, SaveName, Space, Value};
 use std::alloc::Global;
@@ -64,10 +65,10 @@ impl OpenSave {
         at: &Loc,
     ) -> Result<(), NoMemory>
         requires spot { spot_of at.now ≡ held cell (slot_in at.now) }
-        requires place { is_slot (get (from_entries {R = cell_cmp} cells.now.entries) cell) (slot_in at.now) ≡ true }
+        requires place { is_slot (get (cells_of cells.now) cell) (slot_in at.now) ≡ true }
         ensures name { self.new.0 ≡ self.old.0 }
-        ensures same { as_saved self.new (from_entries cells.now.entries) ≡ as_saved self.old (from_entries cells.now.entries) }
-        ensures noted { OnOk result ((v : Value) → as_saved self.new (put_held (spot_of at.now) v (from_entries cells.now.entries)) ≡ as_saved self.old (from_entries cells.now.entries)) }
+        ensures same { as_saved self.new (cells_of cells.now) ≡ as_saved self.old (cells_of cells.now) }
+        ensures noted { OnOk result ((v : Value) → as_saved self.new (put_held (spot_of at.now) v (cells_of cells.now)) ≡ as_saved self.old (cells_of cells.now)) }
     {
         if cell.is_newer_than(self.name) {
             return Ok(());

@@ -3,5 +3,7 @@
 
 mod journal;
 mod locals;
+mod sharing;
 
 pub use locals::Locals;
+pub use sharing::locals_may_be_shared;

@@ -5,17 +5,21 @@ ghost use Rattle.std.specs.List.{AllByRecursion};
 ghost use Rattle.ps_memory.specs.Order.{cell_cmp};
 ghost use Rattle.ps_memory.specs.Memory.{is_global, newer, is_slot, held, spot_of, put_content, put_cell};
 ghost use Rattle.ps_memory.specs.Frame.{later};
-ghost use Rattle.vm_content.specs.Content.{slot_in};
-ghost use Rattle.vm_content.specs.Back.{given_back};
-ghost use Rattle.vm_journal.specs.Journal.{copies, put_held, reverted, holder, is_rising};
+ghost use Rattle.ps_memory.specs.Holders.{holds_string};
+ghost use Rattle.vm_content.specs.Content.{slot_in, put_held};
+ghost use Rattle.vm_content.specs.Back.{content_undone};
+ghost use Rattle.vm_journal.specs.Journal.{copies, cells_reverted, is_rising};
 ghost use Rattle.vm_journal.specs.Part.{AreLocal, HaveCells, Closes, is_empty, kept_from};
+ghost use Rattle.vm_content.specs.Maps.{cells_of};
 
 use crate::journal::OpenSave;
 use ps_objects::{Cell, Loc, NoMemory, SaveName, Shape, Space, Value};
 use std::alloc::Global;
 use std::collections::BTreeMap;
 use std::marker::Model;
-use vm_content::{Before, Bytes, Content, copy_map, forget_cell, give_cell_back, next_in};
+use vm_content::{
+    Before, Bytes, Content, copy_map, insert_cell, next_in, put_in_cell, remove_cell, undo_in_cell,
+};
 
 /// The local cells with the open saves, the oldest first.
 #[derive(Drop)]
@@ -26,6 +30,7 @@ pub struct Locals {
 }
 
 impl Model for Locals {
+    ghost use Rattle.vm_content.specs.Maps.{cells_of};
     ghost use Rattle.std.specs.Prelude.{◌≡◌, true, reverse};
     ghost use Rattle.std.specs.FinMap.{from_entries};
     ghost use Rattle.ps_memory.specs.Order.{cell_cmp};
@@ -36,16 +41,16 @@ impl Model for Locals {
 
     ghost coded = { part_code };
 
-    ghost view = { λ part. record { cells = from_entries {R = cell_cmp} part.cells.entries; kept = copies (reverse part.saves.items) (from_entries {R = cell_cmp} part.cells.entries) } };
+    ghost view = { λ part. record { cells = cells_of part.cells; kept = copies (reverse part.saves.items) (cells_of part.cells) } };
 
-    ghost invariant = { λ part. AreLocal (from_entries {R = cell_cmp} part.cells.entries) × (is_rising (reverse part.saves.items) ≡ true) };
+    ghost invariant = { λ part. AreLocal (cells_of part.cells) × (is_rising (reverse part.saves.items) ≡ true) };
 }
 
 impl Locals {
     /// The cells, with no save open.
     pub fn new(alloc: Global, cells: BTreeMap<Cell, Content>) -> Locals
-        requires { AreLocal (from_entries {R = cell_cmp} cells.entries) }
-        ensures { result ≡ record { cells = from_entries {R = cell_cmp} cells.entries; kept = [] } }
+        requires { AreLocal (cells_of cells) }
+        ensures { result ≡ record { cells = cells_of cells; kept = [] } }
     {
         Locals {
             alloc,
@@ -71,19 +76,19 @@ impl Locals {
         ensures err { OnErr result (self.new ≡ self.old) }
     {
         note(&mut self.saves, &self.cells, cell, at)?;
-        put_one(&mut self.cells, at, value)?;
+        put_in_cell(&mut self.cells, at, value)?;
         Ok(())
     }
 
     /// Adds a cell that is newer than all open saves.
-    #[tactic(auto, using(vm_content::proofs::Cells::cell_inserted, crate::proofs::Parting::part_inserted, crate::proofs::Parting::local_insert))]
+    #[tactic(auto, using(crate::proofs::Parting::part_inserted, crate::proofs::Parting::local_insert))]
     pub fn insert(&mut self, cell: Cell, content: Content) -> Result<(), NoMemory>
         requires local { is_global cell ≡ false }
         requires newest { AllByRecursion (λ k. newer cell k.0 ≡ true) self.old.kept }
         ensures ok { OnOk result (self.new ≡ record { cells = insert self.old.cells cell content; kept = self.old.kept }) }
         ensures err { OnErr result (self.new ≡ self.old) }
     {
-        add_cell(&mut self.cells, cell, content)?;
+        insert_cell(&mut self.cells, cell, content)?;
         Ok(())
     }
 
@@ -106,17 +111,17 @@ impl Locals {
         &mut self,
         strings: &mut BTreeMap<Cell, Bytes>,
     ) -> Result<Option<SaveName>, NoMemory>
-        requires { HaveCells (from_entries {R = cell_cmp} strings.old.entries) self.old.cells }
-        ensures closed { IfOk result (λ name. Closes name self.old self.new (from_entries {R = cell_cmp} strings.old.entries) (from_entries {R = cell_cmp} strings.new.entries)) }
-        ensures cells { HaveCells (from_entries {R = cell_cmp} strings.new.entries) self.new.cells }
-        ensures fewer { (c : Cell) → get (from_entries {R = cell_cmp} strings.old.entries) c ≡ None → get (from_entries {R = cell_cmp} strings.new.entries) c ≡ None }
+        requires { HaveCells (cells_of strings.old) self.old.cells }
+        ensures closed { IfOk result (λ name. Closes name self.old self.new (cells_of strings.old) (cells_of strings.new)) }
+        ensures cells { HaveCells (cells_of strings.new) self.new.cells }
+        ensures fewer { (c : Cell) → get (cells_of strings.old) c ≡ None → get (cells_of strings.new) c ≡ None }
     {
         let Some(save) = take_save(&mut self.saves) else {
             return Ok(None);
         };
         let name = save.name();
         drop_newer(&mut self.cells, strings, name);
-        put_back(&mut self.cells, save.into_notes())?;
+        revert(&mut self.cells, save.into_notes())?;
         Ok(Some(name))
     }
 }
@@ -133,20 +138,20 @@ impl Locals {
 
     /// Gives back what a write to a cell changed.
     #[tactic(auto, using(crate::proofs::Unnoted::part_given, crate::proofs::Unnoted::local_given))]
-    pub fn give_back(&mut self, cell: Cell, before: Before)
+    pub fn undo(&mut self, cell: Cell, before: Before)
         requires { self.old.kept ≡ [] }
-        ensures { self.new ≡ record { cells = put_cell cell (given_back before) self.old.cells; kept = self.old.kept } }
+        ensures { self.new ≡ record { cells = put_cell cell (content_undone before) self.old.cells; kept = self.old.kept } }
     {
-        give_cell_back(&mut self.cells, cell, before);
+        undo_in_cell(&mut self.cells, cell, before);
     }
 
     /// Takes a cell away.
     #[tactic(auto, using(crate::proofs::Unnoted::part_forgotten, crate::proofs::Unnoted::local_forgotten))]
-    pub fn forget(&mut self, cell: Cell)
+    pub fn remove(&mut self, cell: Cell)
         requires { self.old.kept ≡ [] }
         ensures { self.new ≡ record { cells = remove self.old.cells cell; kept = self.old.kept } }
     {
-        forget_cell(&mut self.cells, cell);
+        remove_cell(&mut self.cells, cell);
     }
 }
 
@@ -159,28 +164,15 @@ fn note(
     at: &Loc,
 ) -> Result<(), NoMemory>
     requires spot { spot_of at.now ≡ held cell (slot_in at.now) }
-    requires place { is_slot (get (from_entries {R = cell_cmp} cells.now.entries) cell) (slot_in at.now) ≡ true }
+    requires place { is_slot (get (cells_of cells.now) cell) (slot_in at.now) ≡ true }
     ensures rising { is_rising (reverse saves.new.items) ≡ is_rising (reverse saves.old.items) }
-    ensures same { copies (reverse saves.new.items) (from_entries {R = cell_cmp} cells.now.entries) ≡ copies (reverse saves.old.items) (from_entries {R = cell_cmp} cells.now.entries) }
-    ensures noted { OnOk result ((v : Value) → copies (reverse saves.new.items) (put_held (spot_of at.now) v (from_entries {R = cell_cmp} cells.now.entries)) ≡ copies (reverse saves.old.items) (from_entries {R = cell_cmp} cells.now.entries)) }
+    ensures same { copies (reverse saves.new.items) (cells_of cells.now) ≡ copies (reverse saves.old.items) (cells_of cells.now) }
+    ensures noted { OnOk result ((v : Value) → copies (reverse saves.new.items) (put_held (spot_of at.now) v (cells_of cells.now)) ≡ copies (reverse saves.old.items) (cells_of cells.now)) }
 {
     match saves.last_mut() {
         Some(save) => save.note(cells, cell, at),
         None => Ok(()),
     }
-}
-
-#[tactic(auto, using(vm_content::proofs::Cells::cell_inserted))]
-fn add_cell(
-    cells: &mut BTreeMap<Cell, Content>,
-    cell: Cell,
-    content: Content,
-) -> Result<(), NoMemory>
-    ensures ok { OnOk result (from_entries {R = cell_cmp} cells.new.entries ≡ insert (from_entries {R = cell_cmp} cells.old.entries) cell content) }
-    ensures err { OnErr result (from_entries {R = cell_cmp} cells.new.entries ≡ from_entries {R = cell_cmp} cells.old.entries) }
-{
-    cells.insert(cell, content)?;
-    Ok(())
 }
 
 #[tactic(auto, using(crate::proofs::Parting::pushed))]
@@ -205,10 +197,10 @@ fn drop_newer(
     strings: &mut BTreeMap<Cell, Bytes>,
     save: SaveName,
 )
-    requires local { AreLocal (from_entries {R = cell_cmp} cells.old.entries) }
-    requires cells { HaveCells (from_entries {R = cell_cmp} strings.old.entries) (from_entries {R = cell_cmp} cells.old.entries) }
-    ensures cells { from_entries {R = cell_cmp} cells.new.entries ≡ kept_from save (from_entries {R = cell_cmp} cells.old.entries) }
-    ensures strings { from_entries {R = cell_cmp} strings.new.entries ≡ kept_from save (from_entries {R = cell_cmp} strings.old.entries) }
+    requires local { AreLocal (cells_of cells.old) }
+    requires cells { HaveCells (cells_of strings.old) (cells_of cells.old) }
+    ensures cells { cells_of cells.new ≡ kept_from save (cells_of cells.old) }
+    ensures strings { cells_of strings.new ≡ kept_from save (cells_of strings.old) }
 {
     while let Some((last, _)) = cells.last_key_value() {
         if !last.comes_after(save) {
@@ -220,46 +212,21 @@ fn drop_newer(
     }
 }
 
-/// Puts a value back at a place of a cell, if the cell stands.
-#[tactic(auto, using(vm_content::proofs::Cells::cell_written, vm_content::proofs::Cells::cell_missing, crate::proofs::Parting::written_back))]
-fn put_one(cells: &mut BTreeMap<Cell, Content>, at: &Loc, value: Value) -> Result<(), NoMemory>
-    ensures ok { OnOk result (from_entries {R = cell_cmp} cells.new.entries ≡ put_held (spot_of at.now) value (from_entries {R = cell_cmp} cells.old.entries)) }
-    ensures err { OnErr result (from_entries {R = cell_cmp} cells.new.entries ≡ from_entries {R = cell_cmp} cells.old.entries) }
-{
-    if let Some(cell) = holder(at) {
-        if let Some(content) = cells.get_mut(&cell) {
-            content.put(at, value)?;
-        }
-    }
-    Ok(())
-}
-
 /// Puts back what was noted.
-#[tactic(auto, using(crate::proofs::Reverting::nothing_reverted, crate::proofs::Reverting::one_reverted, crate::proofs::Reverting::all_reverted, crate::proofs::Reverting::still_there, crate::proofs::Reverting::still_gone))]
-fn put_back(
+#[tactic(auto, using(crate::proofs::Reverting::nothing_reverted, crate::proofs::Reverting::one_reverted, crate::proofs::Reverting::all_reverted, crate::proofs::Reverting::still_kinds, crate::proofs::Reverting::still_gone))]
+fn revert(
     cells: &mut BTreeMap<Cell, Content>,
     notes: BTreeMap<Loc, Value>,
 ) -> Result<(), NoMemory>
-    ensures ok { OnOk result (from_entries {R = cell_cmp} cells.new.entries ≡ reverted notes.entries (from_entries {R = cell_cmp} cells.old.entries)) }
-    ensures there { (c : Cell) → get (from_entries {R = cell_cmp} cells.new.entries) c ≡ None → get (from_entries {R = cell_cmp} cells.old.entries) c ≡ None }
-    ensures gone { (c : Cell) → get (from_entries {R = cell_cmp} cells.old.entries) c ≡ None → get (from_entries {R = cell_cmp} cells.new.entries) c ≡ None }
+    ensures ok { OnOk result (cells_of cells.new ≡ cells_reverted notes.entries (cells_of cells.old)) }
+    ensures kinds { (c : Cell) → holds_string (get (cells_of cells.new) c) ≡ holds_string (get (cells_of cells.old) c) }
+    ensures gone { (c : Cell) → get (cells_of cells.old) c ≡ None → get (cells_of cells.new) c ≡ None }
 {
     let mut notes = notes;
     while let Some((at, value)) = notes.pop_first() {
-        put_one(cells, &at, value)?;
+        put_in_cell(cells, &at, value)?;
     }
     Ok(())
-}
-
-/// The cell of whose content a place is a part.
-fn holder(at: &Loc) -> Option<Cell>
-    ensures { result ≡ holder (spot_of at.now) }
-{
-    match at {
-        Loc::Entry { dict, .. } | Loc::Keys { dict } | Loc::Access { dict } => Some(*dict),
-        Loc::Item { array, .. } => Some(*array),
-        Loc::Byte { .. } | Loc::Rand | Loc::Paper => None,
-    }
 }
 
 impl Locals {

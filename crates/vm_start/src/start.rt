@@ -8,6 +8,7 @@ ghost use Rattle.ps_memory.specs.Order.{cell_cmp, key_cmp};
 ghost use Rattle.ps_memory.specs.Memory.{dictionary, items, characters};
 ghost use Rattle.ps_meaning.specs.Start.{literal, operator, read_only_string, system_values, error_record_entries, start_locals, start_globals, start_strings};
 ghost use Rattle.vm_start.specs.StartMaps.{with_entries, operators_between, system_map, error_map};
+ghost use Rattle.vm_content.specs.Maps.{cells_of, entries_of};
 
 use ps_names::places::{FIRST_DEFAULT_ENTRY, OPERATOR_COUNT};
 use ps_objects::{
@@ -102,7 +103,7 @@ fn literal(kind: Kind) -> Object
 #[tactic(auto, using(crate::proofs::StartSteps::key_put))]
 fn put(alloc: Global, entries: &mut Entries, name: &[u8], object: Object) -> Result<(), NoMemory>
     requires { length name.now ≤ 127 }
-    ensures { OnOk result (from_entries {R = key_cmp} entries.new.entries ≡ insert (from_entries entries.old.entries) (key.Name name.now) object) }
+    ensures { OnOk result (entries_of entries.new ≡ insert (entries_of entries.old) (key.Name name.now) object) }
 {
     let name = Name::from_bytes(alloc, name)?;
     entries.insert(Key::Name(name), object)?;
@@ -114,7 +115,7 @@ fn put(alloc: Global, entries: &mut Entries, name: &[u8], object: Object) -> Res
 fn operators(alloc: Global, from: u16, to: u16) -> Result<Entries, NoMemory>
     requires order { from ≤ to }
     requires listed { to ≤ OPERATOR_COUNT }
-    ensures { IfOk result (λ entries. from_entries {R = key_cmp} entries.entries ≡ from_entries (operators_between from to)) }
+    ensures { IfOk result (λ entries. entries_of entries ≡ from_entries (operators_between from to)) }
 {
     let mut entries = BTreeMap::new(alloc);
     for index in (from..to).rev() {
@@ -147,7 +148,7 @@ fn system_dict(alloc: Global) -> Result<Content, NoMemory>
 
 /// Puts the values of the system dictionary that are no operators.
 fn put_values(alloc: Global, entries: &mut Entries) -> Result<(), NoMemory>
-    ensures { OnOk result (from_entries {R = key_cmp} entries.new.entries ≡ with_entries system_values (from_entries entries.old.entries)) }
+    ensures { OnOk result (entries_of entries.new ≡ with_entries system_values (entries_of entries.old)) }
 {
     put(alloc, entries, b"product", read_only_string(PRODUCT))?;
     put(alloc, entries, b"version", read_only_string(VERSION))?;
@@ -174,7 +175,7 @@ fn put_values(alloc: Global, entries: &mut Entries) -> Result<(), NoMemory>
 /// Puts a dictionary under a name.
 fn put_dict(alloc: Global, entries: &mut Entries, name: &[u8], dict: Cell) -> Result<(), NoMemory>
     requires { length name.now ≤ 127 }
-    ensures { OnOk result (from_entries {R = key_cmp} entries.new.entries ≡ insert (from_entries entries.old.entries) (key.Name name.now) (literal (kind.Dict dict))) }
+    ensures { OnOk result (entries_of entries.new ≡ insert (entries_of entries.old) (key.Name name.now) (literal (kind.Dict dict))) }
 {
     put(alloc, entries, name, literal(Kind::Dict(dict)))
 }
@@ -243,7 +244,7 @@ fn eight_characters(alloc: Global) -> Result<Content, NoMemory>
 /// Puts what a cell holds.
 #[tactic(auto, using(crate::proofs::StartSteps::content_put))]
 fn hold(cells: &mut BTreeMap<Cell, Content>, cell: Cell, content: Content) -> Result<(), NoMemory>
-    ensures { OnOk result (from_entries {R = cell_cmp} cells.new.entries ≡ insert (from_entries cells.old.entries) cell content) }
+    ensures { OnOk result (cells_of cells.new ≡ insert (cells_of cells.old) cell content) }
 {
     cells.insert(cell, content)?;
     Ok(())
@@ -251,7 +252,7 @@ fn hold(cells: &mut BTreeMap<Cell, Content>, cell: Cell, content: Content) -> Re
 
 /// The local cells that a job starts with.
 pub fn locals(alloc: Global) -> Result<BTreeMap<Cell, Content>, NoMemory>
-    ensures { IfOk result (λ map. from_entries {R = cell_cmp} map.entries ≡ from_entries start_locals) }
+    ensures { IfOk result (λ map. cells_of map ≡ from_entries start_locals) }
 {
     let mut cells = BTreeMap::new(alloc);
     hold(&mut cells, EMPTY_DASH, no_items(alloc)?)?;
@@ -274,7 +275,7 @@ pub fn locals(alloc: Global) -> Result<BTreeMap<Cell, Content>, NoMemory>
 
 /// The global cells that a job starts with.
 pub fn globals(alloc: Global) -> Result<BTreeMap<Cell, Content>, NoMemory>
-    ensures { IfOk result (λ map. from_entries {R = cell_cmp} map.entries ≡ from_entries start_globals) }
+    ensures { IfOk result (λ map. cells_of map ≡ from_entries start_globals) }
 {
     let mut cells = BTreeMap::new(alloc);
     hold(&mut cells, PRODUCT, eight_characters(alloc)?)?;
@@ -295,7 +296,7 @@ pub fn globals(alloc: Global) -> Result<BTreeMap<Cell, Content>, NoMemory>
 /// The bytes of the strings that a job starts with.
 #[tactic(auto, using(crate::proofs::StartSteps::bytes_put))]
 pub fn strings(alloc: Global) -> Result<BTreeMap<Cell, Bytes>, NoMemory>
-    ensures { IfOk result (λ map. from_entries {R = cell_cmp} map.entries ≡ from_entries start_strings) }
+    ensures { IfOk result (λ map. cells_of map ≡ from_entries start_strings) }
 {
     let mut strings = BTreeMap::new(alloc);
     strings.insert(PRODUCT, Bytes::from_slice(alloc, b"page-rip")?)?;

@@ -1,8 +1,7 @@
 use Rattle.std.proofs.Common.{sym, ◌∙◌}
-use Rattle.std.specs.FinMap.{from_entries}
-use Rattle.ps_memory.specs.Order.{cell_cmp}
 use Rattle.vm_committed.proofs.WholeClosing.{other_copy, other_older, other_strings}
 use Rattle.vm_committed.proofs.cells.close_until.Goals as goal
+use Rattle.vm_content.specs.Maps.{cells_of}
 
 pub loop-closed-preserved : goal.loop-closed-preserved
 loop-closed-preserved c =
@@ -13,8 +12,8 @@ loop-closed-preserved c =
     let s = c.in-Some.closed in
     let old = c.loop-closed.locals in
     let new = c.close.new.self in
-    let before = from_entries {R = cell_cmp} c.loop-closed.strings.entries in
-    let after = from_entries {R = cell_cmp} c.close.new.strings.entries in (
+    let before = cells_of c.loop-closed.strings in
+    let after = cells_of c.close.new.strings in (
       other_copy name s old new before after closes other ∙ copy,
       other_older name s old new before after closes other ∙ older,
       other_strings name s old new before after closes other (λ n. c.requires.open (sym copy ∙ n)) ∙ strings,

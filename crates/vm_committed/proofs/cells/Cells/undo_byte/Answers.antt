@@ -1,8 +1,7 @@
-use Rattle.vm_committed.proofs.Undoing.{byte_back, byte_beyond}
+use Rattle.ps_objects.specs.declared.place.Value.TheVariants as value
+use Rattle.vm_committed.specs.contracts.cells.Cells.{the_view}
+use Rattle.vm_committed.proofs.WholeStores.{holders_byte}
 use Rattle.vm_committed.proofs.cells.Cells.undo_byte.Goals as goal
 
-pub returns-in-Some-get : goal.returns-in-Some-get
-returns-in-Some-get c = byte_back c.args.self.now c.args.string c.args.at c.args.value.now c.in-Some.bytes.now c.in-Some-get.byte c.in-Some.ensures c.in-Some-get.ensures
-
-pub returns-in-None-get : goal.returns-in-None-get
-returns-in-None-get c = byte_beyond c.args.self.now c.args.string c.args.at c.args.value.now c.in-Some.bytes.now c.in-Some.ensures c.in-None-get.ensures
+pub invariant_of-self : goal.invariant_of-self
+invariant_of-self c = holders_byte (the_view c.self.inside) _ c.args.string c.args.at (value.Byte c.args.byte) c.put_byte_in.ensures c.self.invariant
