@@ -20,6 +20,6 @@ returns c = λ l.
     let x : Object = literal (kind.Str (whole_of (next_cell s) n)) in
     let p : c.push.new.self ≡ x ∷ s.regs.operands = search rules in
     let q : c.make_string.new.mem ≡ perform (fresh (next_cell s) (shape.Str n)) M =
-        ap (λ (g : Log). g.view) c.in_ok-make_string.ensures.made ∙ ap (λ (k : Cell). perform (fresh k (shape.Str n)) M) c.next_cell-cell.ensures in
+    ap (λ (g : Log). g.view) c.in_ok-make_string.ensures.made ∙ ap (λ (k : Cell). perform (fresh k (shape.Str n)) M) c.next_cell-cell.ensures in
     subst (λ xs. ReadyIn [] (record (with_ops s xs) { count = s.count + 1 }) c.make_string.new.mem) (sym p)
     (subst (λ N. ReadyIn [] (record (with_ops s (x ∷ s.regs.operands)) { count = s.count + 1 }) N) (sym q) (string_ready s M c.requires n (omega arith) (few (s.count + 1) l)))
