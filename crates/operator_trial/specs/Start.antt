@@ -1,15 +1,14 @@
 -- A page that begins when a job starts, and the operands that it may have.
-use Rattle.std.specs.Prelude.{ℕ, ◌+◌, negsuc, Bool, true, false, not, ◌&&◌, ◌||◌, nat_eq, nat_le, List, [], ◌∷◌}
+use Rattle.std.specs.Prelude.{ℕ, ◌+◌, Bool, true, false, not, ◌&&◌, ◌||◌, nat_eq, nat_le, List, [], ◌∷◌}
 use Rattle.ps_objects.specs.declared.cell.Cell.{Cell}
 use Rattle.ps_objects.specs.declared.object.Kind.{Kind}
 use Rattle.ps_objects.specs.declared.object.Kind.TheVariants as kind
 use Rattle.ps_objects.specs.declared.object.Object.{Object}
 use Rattle.ps_objects.specs.declared.section.SectionKind.TheVariants.{Page}
 use Rattle.ps_objects.specs.declared.settings.Settings.{Settings}
-use Rattle.ps_shapes.specs.declared.numbers.Matrix.{Matrix}
 use Rattle.ps_kinds.specs.declared.state.State.{State}
 use Rattle.ps_memory.specs.Memory.{is_global}
-use Rattle.ps_meaning.specs.Start.{whole_real, start_registers}
+use Rattle.ps_meaning.specs.Start.{start_registers}
 use Rattle.ps_execution.specs.Section.{fresh_state}
 
 -- a local cell of the start with this count
@@ -29,17 +28,6 @@ abbrev pub all_stand : List Object → Bool
 all_stand [] = true
 all_stand (x ∷ xs) = stands x.kind && all_stand xs
 
--- the default matrix of 72 dots an inch on paper of 16 rows
-abbrev pub page_matrix : Matrix
-page_matrix = record {
-  a = whole_real 1;
-  b = whole_real 0;
-  c = whole_real 0;
-  d = record { count = negsuc 16777215 };
-  tx = whole_real 0;
-  ty = whole_real 16;
-}
-
 -- 72 dots an inch, and paper of 16 by 16 pixels
 abbrev pub page_settings : Settings
 page_settings = record { dpi = 72; width = 16; height = 16; keep = false }
@@ -47,4 +35,4 @@ page_settings = record { dpi = 72; width = 16; height = 16; keep = false }
 -- a page that begins on the start memory with these operands
 abbrev pub begun : List Object → State
 begun xs =
-    fresh_state page_settings 0 3 Page (record (start_registers page_matrix 16 16) { operands = xs })
+    fresh_state page_settings 0 3 Page (record (start_registers page_settings) { operands = xs })

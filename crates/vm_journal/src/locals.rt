@@ -214,10 +214,7 @@ fn drop_newer(
 
 /// Puts back what was noted.
 #[tactic(auto, using(crate::proofs::Reverting::nothing_reverted, crate::proofs::Reverting::one_reverted, crate::proofs::Reverting::all_reverted, crate::proofs::Reverting::still_kinds, crate::proofs::Reverting::still_gone))]
-fn revert(
-    cells: &mut BTreeMap<Cell, Content>,
-    notes: BTreeMap<Loc, Value>,
-) -> Result<(), NoMemory>
+fn revert(cells: &mut BTreeMap<Cell, Content>, notes: BTreeMap<Loc, Value>) -> Result<(), NoMemory>
     ensures ok { OnOk result (cells_of cells.new ≡ cells_reverted notes.entries (cells_of cells.old)) }
     ensures kinds { (c : Cell) → holds_string (get (cells_of cells.new) c) ≡ holds_string (get (cells_of cells.old) c) }
     ensures gone { (c : Cell) → get (cells_of cells.old) c ≡ None → get (cells_of cells.new) c ≡ None }

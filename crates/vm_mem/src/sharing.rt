@@ -1,9 +1,7 @@
 //! What memory is told and asked may be sent to and shared between threads.
 
 use crate::{Glance, RestoreRefusal, Write, Writes};
-
-/// A value of this type may be sent to and shared between threads.
-fn may_be_shared<T: Send + Sync>(_value: &T) {}
+use copy_lists::may_be_shared;
 
 /// The types of this crate may be sent to and shared between threads.
 pub fn writes_may_be_shared(
