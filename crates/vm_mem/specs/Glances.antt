@@ -5,8 +5,11 @@ use Rattle.ps_objects.specs.declared.access.Access.TheVariants.{Unlimited}
 use Rattle.ps_objects.specs.declared.object.Object.{Object}
 use Rattle.ps_objects.specs.declared.object.Kind.{Kind}
 use Rattle.ps_objects.specs.declared.object.Kind.TheVariants as kind
+use Rattle.ps_objects.specs.declared.place.Loc.{Loc}
 use Rattle.ps_objects.specs.declared.place.Value.{Value}
 use Rattle.ps_objects.specs.declared.place.Value.TheVariants as value
+use Rattle.ps_memory.specs.Memory.{value_at}
+use Rattle.ps_meaning.specs.Answer.{Log}
 use Rattle.vm_mem.specs.declared.glance.Glance.{Glance}
 use Rattle.vm_mem.specs.declared.glance.Glance.TheVariants.{Absent, Integer, Real, Boolean, Operator, Procedure, Other}
 
@@ -37,6 +40,10 @@ abbrev pub glance_at : Value → Glance
 glance_at value.Absent = Absent
 glance_at (value.Object x) = glance_of x
 glance_at _ = Other
+
+-- what a glance tells of a place
+abbrev pub glance_in : Log → Loc → Glance
+glance_in log l = glance_at (value_at log.view l)
 
 -- a glance tells that nothing stands there
 abbrev pub is_absent : Glance → Bool

@@ -4,10 +4,9 @@ ghost use Rattle.ps_objects.specs.declared.place.Loc.{Loc};
 ghost use Rattle.ps_memory.specs.Holders.{HaveHolders};
 ghost use Rattle.ps_memory.specs.Memory.{value_at};
 ghost use Rattle.ps_memory.specs.Next.{IsNext};
-ghost use Rattle.ps_memory.specs.Writes.{apply};
 ghost use Rattle.ps_meaning.specs.Start.{start_memory};
 ghost use Rattle.vm_mem.specs.Conditions.{MayApply};
-ghost use Rattle.vm_mem.specs.Writes.{actions};
+ghost use Rattle.vm_mem.specs.Writes.{actions, Applies};
 
 use crate::{Mem, Writes};
 use ps_objects::{Cell, Loc, NoMemory, Settings, Shape, Value};
@@ -33,7 +32,7 @@ pub trait Base: Mem + Sized {
     /// Does writes in order, each of which meets its condition where it is done. Where memory runs out nothing has changed.
     fn apply(&mut self, writes: &Writes) -> Result<(), NoMemory>
         requires { MayApply (Self.log self.old).view (actions writes.now) }
-        ensures ok { OnOk result ((Self.log self.new).view ≡ apply (actions writes.now) (Self.log self.old).view) }
+        ensures ok { OnOk result (Applies writes.now (Self.log self.old) (Self.log self.new)) }
         ensures err { OnErr result ((Self.log self.new).view ≡ (Self.log self.old).view) };
 
     /// A copy of the value at any place: absent where its cell doesn't stand or isn't of its kind, or it is out of range.
