@@ -20,7 +20,8 @@ pub fn items_of<M: Mem>(
     requires { is_array (M.log mem.old).view array ≡ true }
     ensures view { OnOk result ((M.log mem.new).view ≡ (M.log mem.old).view) }
     ensures length { IfOk result (λ v. vec_len v ≡ array.len) }
-    ensures told { IfOk result (λ v. Finds (spec.items_of array) (M.log mem.old) v.items (M.log mem.new)) }
+    ensures told { IfOk result (λ v.
+        Finds (spec.items_of array) (M.log mem.old) v.items (M.log mem.new)) }
 {
     let mut items = Vec::new(alloc);
     for at in 0..array.len {
@@ -46,7 +47,8 @@ pub fn store_items<M: Mem>(
 ) -> Result<(), NoMemory>
     requires array { is_array (M.log mem.old).view array ≡ true }
     requires within { from + length items.now ≤ array.len }
-    ensures stored { OnOk result (M.log mem.new ≡ changed_in (M.log mem.old) (item_stores array from items.now)) }
+    ensures stored { OnOk result (M.log mem.new
+        ≡ changed_in (M.log mem.old) (item_stores array from items.now)) }
     ensures stays { OnOk result (Stays (M.log mem.old).view (M.log mem.new).view) }
 {
     for at in 0..items.len() {
