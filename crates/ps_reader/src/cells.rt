@@ -46,7 +46,8 @@ fn whole(cell: Cell, len: u32) -> Interval
 fn make_bytes<M: Mem>(bytes: &Text, cell: Cell, mem: &mut M) -> Result<(), NoMemory>
     requires free { MayMake (M.log mem.old).view cell }
     requires small { length bytes.now ≤ 65535 }
-    ensures made { OnOk result (M.log mem.new ≡ changed_in (M.log mem.old) (made_of cell (content.Bytes bytes.now))) }
+    ensures made { OnOk result (M.log mem.new
+        ≡ changed_in (M.log mem.old) (made_of cell (content.Bytes bytes.now))) }
     ensures stays { OnOk result (StaysBeside cell (M.log mem.old).view (M.log mem.new).view) }
 {
     let bytes = bytes.as_slice();
@@ -59,7 +60,8 @@ fn make_bytes<M: Mem>(bytes: &Text, cell: Cell, mem: &mut M) -> Result<(), NoMem
 fn make_items<M: Mem>(items: &Sequence<Object>, cell: Cell, mem: &mut M) -> Result<(), NoMemory>
     requires free { MayMake (M.log mem.old).view cell }
     requires small { length items.now ≤ 65535 }
-    ensures made { OnOk result (M.log mem.new ≡ changed_in (M.log mem.old) (made_of cell (content.Items items.now))) }
+    ensures made { OnOk result (M.log mem.new
+        ≡ changed_in (M.log mem.old) (made_of cell (content.Items items.now))) }
     ensures stays { OnOk result (StaysBeside cell (M.log mem.old).view (M.log mem.new).view) }
 {
     let items = items.as_slice();
@@ -72,7 +74,8 @@ fn make_items<M: Mem>(items: &Sequence<Object>, cell: Cell, mem: &mut M) -> Resu
 fn make<M: Mem>(content: &Content, cell: Cell, mem: &mut M) -> Result<(), NoMemory>
     requires free { MayMake (M.log mem.old).view cell }
     requires small { IsSmall content.now }
-    ensures made { OnOk result (M.log mem.new ≡ changed_in (M.log mem.old) (made_of cell content.now)) }
+    ensures made { OnOk result (M.log mem.new
+        ≡ changed_in (M.log mem.old) (made_of cell content.now)) }
     ensures stays { OnOk result (StaysBeside cell (M.log mem.old).view (M.log mem.new).view) }
 {
     match content {
@@ -91,7 +94,8 @@ pub(crate) fn make_cells<M: Mem>(
     requires ready { Ready state.now (M.log mem.old).view }
     requires small { AreSmall cells.now }
     requires room { state.now.count + length cells.now < 2 ^ 32 }
-    ensures { OnOk result (M.log mem.new ≡ changed_in (M.log mem.old) (changes_of state.now 0 cells.now)) }
+    ensures { OnOk result (M.log mem.new
+        ≡ changed_in (M.log mem.old) (changes_of state.now 0 cells.now)) }
 {
     for at in 0..cells.len() {
         make(cells.at(at), cell_at(state, at as u32), mem)?;

@@ -34,8 +34,10 @@ fn take_value<M: Mem>(
     requires gathered { IsGathered state.now.kind 0 gathering.old }
     ensures view { OnOk result ((M.log mem.new).view ≡ (M.log mem.old).view) }
     ensures kept { IfOk result (λ r. IsGathered state.now.kind (unpaid r) gathering.new) }
-    ensures goes { IfOk result (λ r. Goes (λ k place. meaning.gather_token k state.now (token.Now name) place
-        (told state.now gathering.old)) state.now (M.log mem.old) r gathering.new (M.log mem.new)) }
+    ensures goes { IfOk result (λ r. Goes
+        (λ k place. meaning.gather_token k state.now (token.Now name) place
+        (told state.now gathering.old))
+        state.now (M.log mem.old) r gathering.new (M.log mem.new)) }
 {
     match find(&state.regs.dicts, Key::Name(name), mem) {
         Ok(object) => Ok(complete_value(object, state, gathering)?),
@@ -68,8 +70,9 @@ fn take<M: Mem>(
     requires short { IsShort token }
     ensures view { OnOk result ((M.log mem.new).view ≡ (M.log mem.old).view) }
     ensures kept { IfOk result (λ r. IsGathered state.now.kind (unpaid r) gathering.new) }
-    ensures goes { IfOk result (λ r. Goes (λ k place. meaning.gather_token k state.now token place
-        (told state.now gathering.old)) state.now (M.log mem.old) r gathering.new (M.log mem.new)) }
+    ensures goes { IfOk result (λ r. Goes
+        (λ k place. meaning.gather_token k state.now token place (told state.now gathering.old))
+        state.now (M.log mem.old) r gathering.new (M.log mem.new)) }
 {
     match token {
         Token::Integer(n) => complete(literal(Kind::Integer(n)), state, gathering),
@@ -168,8 +171,8 @@ fn scan<M: Mem>(
     ensures view { OnOk result ((M.log mem.new).view ≡ (M.log mem.old).view) }
     ensures small { IfOk result (λ d. AreSmall d.cells) }
     ensures few { IfOk result (λ d. length d.cells ≤ 8000001) }
-    ensures leads { IfOk result (λ d. Leads state.now
-        (gather bytes.now place state.now) (M.log mem.old) (ends_with state.now d) (M.log mem.new)) }
+    ensures leads { IfOk result (λ d. Leads state.now (gather bytes.now place state.now)
+        (M.log mem.old) (ends_with state.now d) (M.log mem.new)) }
 {
     let mut gathering = begun(alloc, state);
     let mut at = place;
