@@ -1,0 +1,4 @@
+use crate::{Differs, Place, Read, ReadLog};
+use ps_kinds::{
+    DictStack, GStack, GState, Objects, RegField, Regs, Saves,
+};
