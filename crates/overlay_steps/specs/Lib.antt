@@ -1,0 +1,4 @@
+pub mod Newest
+pub mod Pile
+pub mod Steps
+pub mod Entries
