@@ -1,0 +1,4 @@
+pub mod Walks
+pub mod Growth
+pub mod Search
+pub mod Seats
