@@ -1,3 +1,4 @@
+pub mod Changes
 pub mod Whole
 pub mod Next
 pub mod Undo

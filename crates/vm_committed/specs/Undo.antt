@@ -1,10 +1,14 @@
 -- How writes are taken back.
-use Rattle.std.specs.Prelude.{Bool, true, false, ◌&&◌, List, [], ◌∷◌}
+use Rattle.std.specs.Prelude.{◌≡◌, Bool, true, false, ◌&&◌, List, [], ◌∷◌}
 use Rattle.std.specs.FinMap.{remove}
-use Rattle.ps_objects.specs.declared.place.Value.TheVariants as value
-use Rattle.ps_memory.specs.Memory.{Memory, with_part, put_cell, put_byte}
+use Rattle.ps_objects.specs.declared.cell.Cell.{Cell}
+use Rattle.ps_objects.specs.declared.place.Loc.{Loc}
+use Rattle.ps_objects.specs.declared.place.Value.{Value}
+use Rattle.ps_memory.specs.Memory.{Memory, held, with_part, put_cell, do_store, Action, perform}
 use Rattle.vm_content.specs.Back.{content_undone}
+use Rattle.vm_content.specs.Content.{slot_in}
 use Rattle.vm_journal.specs.Part.{is_empty}
+use Rattle.vm_committed.specs.Changes.{with_byte}
 use Rattle.vm_committed.specs.Whole.{page_of}
 use Rattle.vm_committed.specs.declared.undo.Undo.{Undo}
 use Rattle.vm_committed.specs.declared.undo.Undo.TheVariants.{Nothing, Made, Held, Byte, Rand, Laid}
@@ -16,9 +20,17 @@ abbrev pub write_undone : Undo → Memory → Memory
 write_undone Nothing M = M
 write_undone (Made c) M = record (with_part M c (λ m. remove m c)) { strings = remove M.strings c }
 write_undone (Held c b) M = with_part M c (put_cell c (content_undone b))
-write_undone (Byte c i n) M = record M { strings = put_cell c (put_byte i (value.Byte n)) M.strings }
+write_undone (Byte c i n) M = record M { strings = with_byte c i n M.strings }
 write_undone (Rand n) M = record M { rand = n }
 write_undone (Laid p) M = record M { page = page_of p }
+
+-- an action on a memory is taken back
+abbrev pub TakesBack : Undo → Action → Memory → Type 0
+TakesBack u w M = write_undone u (perform w M) ≡ M
+
+-- a store at a place of a cell is taken back
+abbrev pub TakesHeldBack : Undo → Cell → Loc → Value → Memory → Type 0
+TakesHeldBack u c l v M = write_undone u (do_store (held c (slot_in l)) v M) ≡ M
 
 -- the newest first
 abbrev pub writes_undone : List Undo → Memory → Memory

@@ -1,14 +1,17 @@
 -- A memory, seen from its parts.
-use Rattle.std.specs.Prelude.{◌≡◌, ℕ, refl, ◌⊎◌}
+use Rattle.std.specs.Prelude.{◌≡◌, ℕ, List, refl, ◌⊎◌}
 use Rattle.std.proofs.Common.{inl, inr}
 use Rattle.std.specs.Coded.{Coded, code_by, coded×, coded⊎, coded_list, coded_ℕ}
+use Rattle.std.specs.BTreeMap.{BTreeMap}
 use Rattle.std.specs.FinMap as map
 use Rattle.ps_shapes.specs.Sheet.{Sheet}
 use Rattle.ps_shapes.specs.contracts.paper.Paper as papers
+use Rattle.ps_objects.specs.declared.cell.Cell.{Cell}
 use Rattle.ps_objects.specs.contracts.cell.Cell as cells
 use Rattle.ps_memory.specs.Memory as spec
-use Rattle.ps_memory.specs.Memory.{Memory, part, here, out}
-use Rattle.vm_journal.specs.Part.{cells_code, kept_code}
+use Rattle.ps_memory.specs.Memory.{Content, Memory, here, out}
+use Rattle.vm_content.specs.Maps.{cells_of}
+use Rattle.vm_journal.specs.Part.{Part, cells_code, kept_code}
 use Rattle.vm_committed.specs.declared.page.Page.{Page}
 use Rattle.vm_committed.specs.declared.page.Page.TheVariants.{Here, Out}
 
@@ -16,6 +19,11 @@ use Rattle.vm_committed.specs.declared.page.Page.TheVariants.{Here, Out}
 abbrev pub page_of : Page → spec.Page
 page_of (Here paper) = here paper
 page_of (Out width height) = out width height
+
+-- a memory, from its parts
+abbrev pub memory_of : Part → BTreeMap Cell Content → BTreeMap Cell (List ℕ) → ℕ → Page → Memory
+memory_of locals globals strings rand page =
+    record { locals = locals.cells; globals = cells_of globals; strings = cells_of strings; rand = rand; page = page_of page; kept = locals.kept }
 
 -- ---- how a memory is told from another
 

@@ -1,14 +1,14 @@
 //! The committed memory.
-ghost use Rattle.std.specs.Prelude.{◌≡◌, ◌≢◌, true, false, cond, replicate, None, Some, option_copied, IfOk, OnOk, OnErr};
+ghost use Rattle.std.specs.Prelude.{◌≡◌, ◌≢◌, true, None, Some, option_copied, IfOk, OnOk, OnErr};
 ghost use Rattle.std.specs.FinMap.{get, insert, from_entries};
-ghost use Rattle.std.specs.List.{AllByRecursion};
 ghost use Rattle.ps_memory.specs.Order.{cell_cmp};
-ghost use Rattle.ps_objects.specs.declared.place.Value.TheVariants as value;
-ghost use Rattle.ps_memory.specs.Memory.{is_global, newer, part, with_part, value_at, value_found, in_string, page_found, is_slot, is_kind, held, byte, rand, paper, spot_of, put_content, put_byte, put_cell, characters, do_store, copy_named, older_than};
+ghost use Rattle.ps_memory.specs.Memory.{part, with_part, value_at, value_found, in_string, page_found, is_slot, is_kind, held, byte, rand, paper, spot_of, characters, do_store, copy_named, older_than};
 ghost use Rattle.vm_content.specs.Content.{slot_in};
 ghost use Rattle.ps_memory.specs.Holders.{HaveHolders};
 ghost use Rattle.vm_journal.specs.Part.{HaveCells, kept_from};
-ghost use Rattle.vm_content.specs.Maps.{cells_of};
+ghost use Rattle.vm_content.specs.Maps.{cells_of, AddsNone};
+ghost use Rattle.vm_mem.specs.Conditions.{NewerThanAll};
+ghost use Rattle.vm_committed.specs.Changes.{with_local, with_global, with_string, with_byte};
 
 use crate::page::Page;
 use ps_objects::{Cell, Loc, NoMemory, SaveName, Space, Value};
@@ -33,20 +33,19 @@ pub struct Cells {
 }
 
 impl Model for Cells {
-    ghost use Rattle.vm_content.specs.Maps.{cells_of};
     ghost use Rattle.std.specs.FinMap.{from_entries};
     ghost use Rattle.ps_memory.specs.Order.{cell_cmp};
     ghost use Rattle.ps_memory.specs.Memory.{Memory};
-    ghost use Rattle.vm_committed.specs.Whole.{memory_code, page_of};
+    ghost use Rattle.vm_committed.specs.Whole.{memory_code, memory_of};
     ghost use Rattle.ps_memory.specs.Holders.{HaveHolders};
 
     ghost Value = { Memory };
 
     ghost coded = { memory_code };
 
-    ghost view = { λ m. record { locals = m.locals.cells; globals = cells_of m.globals; strings = cells_of m.strings; rand = m.rand; page = page_of m.page; kept = m.locals.kept } };
+    ghost view = { λ m. memory_of m.locals m.globals m.strings m.rand m.page };
 
-    ghost invariant = { λ m. HaveHolders (record { locals = m.locals.cells; globals = cells_of m.globals; strings = cells_of m.strings; rand = m.rand; page = page_of m.page; kept = m.locals.kept }) };
+    ghost invariant = { λ m. HaveHolders (memory_of m.locals m.globals m.strings m.rand m.page) };
 }
 
 impl Cells {
@@ -160,7 +159,7 @@ impl Cells {
     /// Adds a cell that isn't a string's.
     pub(crate) fn make_held(&mut self, cell: Cell, content: Content) -> Result<(), NoMemory>
         requires unused { get self.old.strings cell ≡ None }
-        requires newest { is_global cell ≡ false → AllByRecursion (λ k. newer cell k.0 ≡ true) self.old.kept }
+        requires newest { NewerThanAll cell self.old.kept }
         ensures ok { OnOk result (self.new ≡ with_part self.old cell (λ m. insert m cell content)) }
         ensures err { OnErr result (self.new ≡ self.old) }
     {
@@ -177,8 +176,8 @@ impl Cells {
     ) -> Result<(), NoMemory>
         requires string { content ≡ characters len }
         requires unused { get self.old.strings cell ≡ None }
-        requires newest { is_global cell ≡ false → AllByRecursion (λ k. newer cell k.0 ≡ true) self.old.kept }
-        ensures ok { OnOk result (self.new ≡ record (with_part self.old cell (λ m. insert m cell content)) { strings = insert self.old.strings cell (replicate len 0) }) }
+        requires newest { NewerThanAll cell self.old.kept }
+        ensures ok { OnOk result (self.new ≡ with_string cell len content self.old) }
         ensures err { OnErr result (self.new ≡ self.old) }
     {
         let bytes = Bytes::zeros(self.alloc, len)?;
@@ -205,10 +204,10 @@ fn insert_string(
     bytes: Bytes,
 ) -> Result<(), NoMemory>
     requires unused { get (cells_of strings.old) cell ≡ None }
-    requires newest { is_global cell ≡ false → AllByRecursion (λ k. newer cell k.0 ≡ true) locals.old.kept }
-    ensures locals { OnOk result (locals.new ≡ record { cells = cond (is_global cell) locals.old.cells (insert locals.old.cells cell content); kept = locals.old.kept }) }
-    ensures globals { OnOk result (cells_of globals.new ≡ cond (is_global cell) (insert (cells_of globals.old) cell content) (cells_of globals.old)) }
-    ensures strings { OnOk result (cells_of strings.new ≡ insert (cells_of strings.old) cell bytes) }
+    requires newest { NewerThanAll cell locals.old.kept }
+    ensures locals { OnOk result (locals.new ≡ with_local cell content locals.old) }
+    ensures globals { OnOk result (cells_of globals.new ≡ with_global cell content globals.old) }
+    ensures bytes { OnOk result (cells_of strings.new ≡ insert (cells_of strings.old) cell bytes) }
     ensures same_locals { OnErr result (locals.new ≡ locals.old) }
     ensures same_globals { OnErr result (cells_of globals.new ≡ cells_of globals.old) }
     ensures same_strings { OnErr result (cells_of strings.new ≡ cells_of strings.old) }
@@ -230,9 +229,9 @@ fn insert_held(
     cell: Cell,
     content: Content,
 ) -> Result<(), NoMemory>
-    requires newest { is_global cell ≡ false → AllByRecursion (λ k. newer cell k.0 ≡ true) locals.old.kept }
-    ensures locals { OnOk result (locals.new ≡ record { cells = cond (is_global cell) locals.old.cells (insert locals.old.cells cell content); kept = locals.old.kept }) }
-    ensures globals { OnOk result (cells_of globals.new ≡ cond (is_global cell) (insert (cells_of globals.old) cell content) (cells_of globals.old)) }
+    requires newest { NewerThanAll cell locals.old.kept }
+    ensures locals { OnOk result (locals.new ≡ with_local cell content locals.old) }
+    ensures globals { OnOk result (cells_of globals.new ≡ with_global cell content globals.old) }
     ensures same_locals { OnErr result (locals.new ≡ locals.old) }
     ensures same_globals { OnErr result (cells_of globals.new ≡ cells_of globals.old) }
 {
@@ -246,7 +245,7 @@ fn insert_held(
 /// Stores a byte of a string, if the string is that long.
 #[tactic(auto, using(vm_content::proofs::Cells::cell_written, vm_content::proofs::Cells::cell_missing))]
 pub(crate) fn put_byte_in(strings: &mut BTreeMap<Cell, Bytes>, string: Cell, at: u32, byte: u8)
-    ensures { cells_of strings.new ≡ put_cell string (put_byte at (value.Byte byte)) (cells_of strings.old) }
+    ensures { cells_of strings.new ≡ with_byte string at byte (cells_of strings.old) }
 {
     if let Some(bytes) = strings.get_mut(&string) {
         bytes.set(at, byte);
@@ -265,7 +264,7 @@ pub(crate) fn close_until(
     ensures kept { OnOk result (locals.new.kept ≡ older_than name locals.old.kept) }
     ensures strings { OnOk result (cells_of strings.new ≡ kept_from name (cells_of strings.old)) }
     ensures cells { HaveCells (cells_of strings.new) locals.new.cells }
-    ensures fewer { (c : Cell) → get (cells_of strings.old) c ≡ None → get (cells_of strings.new) c ≡ None }
+    ensures fewer { AddsNone (cells_of strings.old) (cells_of strings.new) }
 {
     while let Some(closed) = locals.close(strings)? {
         if name == closed {

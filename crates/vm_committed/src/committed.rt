@@ -2,7 +2,9 @@
 ghost use Rattle.std.specs.Prelude.{◌≡◌, None, OnOk, OnErr, option_copied};
 ghost use Rattle.ps_objects.specs.declared.place.Loc.TheVariants as loc;
 ghost use Rattle.ps_objects.specs.declared.place.Value.TheVariants as value;
-ghost use Rattle.ps_memory.specs.Memory.{value_found, object_found, store, fresh, save, perform};
+ghost use Rattle.ps_memory.specs.Memory.{store, fresh, save, perform};
+ghost use Rattle.vm_content.specs.Content.{found_value};
+ghost use Rattle.vm_mem.specs.Acts.{removal};
 ghost use Rattle.vm_mem.specs.Conditions.{MayStore, MayMake, MayOpen};
 ghost use Rattle.vm_mem.specs.Glances.{glance_at};
 
@@ -15,7 +17,7 @@ use vm_mem::{Base, Glance, Mem, RestoreRefusal};
 
 /// What a glance tells of the object at a place, if there is one.
 fn glance_of(object: Option<&Object>) -> Glance
-    ensures { result ≡ glance_at (value_found (object_found (option_copied object.entry))) }
+    ensures { result ≡ glance_at (found_value (option_copied object.entry)) }
 {
     match object {
         Some(object) => Glance::of(object),
@@ -84,7 +86,7 @@ impl Mem for Cells {
     #[tactic(auto, using(vm_mem::proofs::Conditions::store_allowed))]
     fn remove(&mut self, dict: Cell, key: &Key) -> Result<(), NoMemory>
         requires { MayStore self.old (loc.Entry dict key.now) value.Absent }
-        ensures ok { OnOk result (self.new ≡ perform (store (loc.Entry dict key.now) value.Absent) self.old) }
+        ensures ok { OnOk result (self.new ≡ perform (removal dict key.now) self.old) }
         ensures err { OnErr result (self.new ≡ self.old) }
     {
         let at = Loc::Entry {

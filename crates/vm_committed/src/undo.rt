@@ -1,14 +1,14 @@
 //! How a write is taken back.
 ghost use Rattle.std.specs.Prelude.{◌≡◌, [], true, option_copied, IfOk};
 ghost use Rattle.std.specs.FinMap.{get};
-ghost use Rattle.ps_memory.specs.Memory.{held, byte, spot_of, with_part, put_cell, do_store, do_fresh, store, fresh, perform};
+ghost use Rattle.ps_memory.specs.Memory.{held, byte, spot_of, with_part, put_cell, do_store, do_fresh, store, fresh};
 ghost use Rattle.ps_memory.specs.Frame.{Allowed};
 ghost use Rattle.vm_content.specs.Content.{slot_in};
 ghost use Rattle.vm_content.specs.Back.{content_undone};
 ghost use Rattle.vm_committed.specs.declared.undo.Undo.TheVariants as undo;
 ghost use Rattle.vm_committed.specs.Whole.{page_of};
 ghost use Rattle.vm_mem.specs.Writes.{action_of};
-ghost use Rattle.vm_committed.specs.Undo.{write_undone, opens_none};
+ghost use Rattle.vm_committed.specs.Undo.{write_undone, opens_none, TakesBack, TakesHeldBack};
 
 use crate::cells::{Cells, put_byte_in};
 use crate::page::Page;
@@ -44,7 +44,7 @@ impl Cells {
     pub(crate) fn undo_of(&self, write: &Write) -> Result<Undo, NoMemory>
         requires allowed { Allowed (action_of write.now) self.now }
         requires closed { opens_none write.now ≡ true }
-        ensures { IfOk result (λ undo. write_undone undo (perform (action_of write.now) self.now) ≡ self.now) }
+        ensures { IfOk result (λ undo. TakesBack undo (action_of write.now) self.now) }
     {
         match write {
             Write::Fresh { cell, shape } => Ok(self.undo_of_fresh(*cell, *shape)),
@@ -70,7 +70,7 @@ impl Cells {
     }
 
     fn undo_of_put(&self, at: &Loc, value: &Value) -> Result<Undo, NoMemory>
-        ensures { IfOk result (λ undo. write_undone undo (perform (store at.now value.now) self.now) ≡ self.now) }
+        ensures { IfOk result (λ undo. TakesBack undo (store at.now value.now) self.now) }
     {
         match at {
             Loc::Entry { dict, .. } | Loc::Keys { dict } | Loc::Access { dict } => {
@@ -89,7 +89,7 @@ impl Cells {
     #[tactic(auto, using(crate::proofs::Undoing::held_back, crate::proofs::Undoing::held_nowhere))]
     fn undo_of_held(&self, cell: Cell, at: &Loc, value: &Value) -> Result<Undo, NoMemory>
         requires { spot_of at.now ≡ held cell (slot_in at.now) }
-        ensures { IfOk result (λ undo. write_undone undo (do_store (held cell (slot_in at.now)) value.now self.now) ≡ self.now) }
+        ensures { IfOk result (λ undo. TakesHeldBack undo cell at.now value.now self.now) }
     {
         match self.content(cell) {
             Some(content) => {

@@ -1,8 +1,9 @@
 -- How a write is taken back without memory.
-use Rattle.std.specs.Prelude.{Some, None}
+use Rattle.std.specs.Prelude.{◌≡◌, Some, None}
 use Rattle.std.specs.FinMap.{FinMap, get, insert, remove}
 use Rattle.ps_objects.specs.declared.key.Key.{Key}
 use Rattle.ps_objects.specs.declared.object.Object.{Object}
+use Rattle.ps_objects.specs.declared.place.Loc.{Loc}
 use Rattle.ps_objects.specs.declared.place.Value.{Value}
 use Rattle.ps_objects.specs.declared.place.Value.TheVariants as value
 use Rattle.ps_memory.specs.Order.{key_cmp}
@@ -38,3 +39,7 @@ abbrev pub content_undone : Before → Content → Content
 content_undone Same x = x
 content_undone (Place l v) x = place_undone (slot_in l) v x
 content_undone (Entries es) x = with_entries (entries_of es) x
+
+-- a write of a value at a place of a content is taken back
+abbrev pub TakesBack : Before → Loc → Value → Content → Type 0
+TakesBack b l v x = content_undone b (put_content (slot_in l) v x) ≡ x

@@ -1,11 +1,12 @@
 -- The values in a cell, by places.
 use Rattle.std.specs.Prelude.{Option, Some, None}
 use Rattle.ps_objects.specs.declared.cell.Cell.{Cell}
+use Rattle.ps_objects.specs.declared.object.Object.{Object}
 use Rattle.ps_objects.specs.declared.place.Loc.{Loc}
 use Rattle.ps_objects.specs.declared.place.Loc.TheVariants as loc
 use Rattle.ps_objects.specs.declared.place.Value.{Value}
 use Rattle.ps_objects.specs.declared.place.Value.TheVariants as value
-use Rattle.ps_memory.specs.Memory.{Content, CellMap, Slot, Spot, held, put_content, put_cell, entry, access, item, whole, in_content, value_found, keys_of}
+use Rattle.ps_memory.specs.Memory.{Content, CellMap, Slot, Spot, spot_of, held, put_content, put_cell, entry, access, item, whole, in_content, object_found, value_found, keys_of}
 
 -- the part of a cell that a place names
 abbrev pub slot_in : Loc → Slot
@@ -34,3 +35,11 @@ holder _ = None
 abbrev pub put_held : Spot → Value → CellMap → CellMap
 put_held (held c t) v m = put_cell c (put_content t v) m
 put_held _ v m = m
+
+-- the same at a place's name
+abbrev pub put_at : Loc → Value → CellMap → CellMap
+put_at l v m = put_held (spot_of l) v m
+
+-- the value of an object that was found, if there is one
+abbrev pub found_value : Option Object → Value
+found_value x = value_found (object_found x)

@@ -1,9 +1,7 @@
 //! What a write to a content changed.
 ghost use Rattle.std.specs.Prelude.{◌≡◌, IfOk};
 ghost use Rattle.ps_objects.specs.declared.place.Value.TheVariants as values;
-ghost use Rattle.ps_memory.specs.Memory.{put_content};
-ghost use Rattle.vm_content.specs.Content.{slot_in};
-ghost use Rattle.vm_content.specs.Back.{with_entries, content_undone};
+ghost use Rattle.vm_content.specs.Back.{with_entries, content_undone, TakesBack};
 ghost use Rattle.vm_content.specs.Maps.{entries_of};
 
 use crate::content::{Inner, is_absent};
@@ -28,7 +26,7 @@ impl Content {
     /// What a write of the value at a place will change.
     #[tactic(auto, using(crate::proofs::Back::place_back))]
     pub fn before(&self, at: &Loc, value: &Value) -> Result<Before, NoMemory>
-        ensures { IfOk result (λ before. content_undone before (put_content (slot_in at.now) value.now self.now) ≡ self.now) }
+        ensures { IfOk result (λ before. TakesBack before at.now value.now self.now) }
     {
         if is_absent(value) {
             return self.before_removal(at);
@@ -42,7 +40,7 @@ impl Content {
     /// To put an entry back that was taken away could want memory, so the entries are copied.
     #[tactic(auto, using(crate::proofs::Back::nothing_removed, crate::proofs::Back::entries_back, crate::proofs::Back::only_entries, crate::proofs::Back::characters_stay))]
     fn before_removal(&self, at: &Loc) -> Result<Before, NoMemory>
-        ensures { IfOk result (λ before. content_undone before (put_content (slot_in at.now) values.Absent self.now) ≡ self.now) }
+        ensures { IfOk result (λ before. TakesBack before at.now values.Absent self.now) }
     {
         if self.holds(at, &Value::Absent) {
             return Ok(Before::Same);

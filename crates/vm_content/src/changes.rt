@@ -3,7 +3,7 @@ ghost use Rattle.std.specs.Prelude.{◌≡◌, OnOk, OnErr};
 ghost use Rattle.std.specs.FinMap.{insert, remove};
 ghost use Rattle.ps_memory.specs.Memory.{spot_of, put_cell};
 ghost use Rattle.vm_content.specs.Back.{content_undone};
-ghost use Rattle.vm_content.specs.Content.{holder, put_held};
+ghost use Rattle.vm_content.specs.Content.{holder, put_at};
 ghost use Rattle.vm_content.specs.Maps.{cells_of};
 
 use crate::{Before, Bytes, Content};
@@ -58,7 +58,7 @@ pub fn put_in_cell(
     at: &Loc,
     value: Value,
 ) -> Result<(), NoMemory>
-    ensures ok { OnOk result (cells_of cells.new ≡ put_held (spot_of at.now) value (cells_of cells.old)) }
+    ensures ok { OnOk result (cells_of cells.new ≡ put_at at.now value (cells_of cells.old)) }
     ensures err { OnErr result (cells_of cells.new ≡ cells_of cells.old) }
 {
     if let Some(cell) = holder(at) {

@@ -7,9 +7,9 @@ ghost use Rattle.ps_objects.specs.declared.place.Value.TheVariants as values;
 ghost use Rattle.std.specs.Cmp.Lexicographic.{pointwise};
 ghost use Rattle.std.specs.BTreeMap.{keys as map_keys, IsOrdered};
 ghost use Rattle.ps_objects.specs.contracts.key.KeyPartialEq.TheImpl as key_eq;
-ghost use Rattle.vm_content.specs.Content.{slot_in, value_in};
+ghost use Rattle.vm_content.specs.Content.{slot_in, value_in, found_value};
 ghost use Rattle.vm_content.specs.Back.{over_entry, entry_undone, place_undone};
-ghost use Rattle.vm_content.specs.Maps.{entries_of};
+ghost use Rattle.vm_content.specs.Maps.{entries_of, entry_put};
 
 use crate::copying::{copy_items, copy_map};
 use ps_objects::{Access, Duplicate, Key, Keys, Kind, Loc, NoMemory, Object, Shape, Value};
@@ -321,7 +321,7 @@ pub(crate) fn is_absent(value: &Value) -> bool
 }
 
 fn copy_found(object: Option<&Object>) -> Result<Value, NoMemory>
-    ensures { IfOk result (λ value. value ≡ value_found (object_found (option_copied object.entry))) }
+    ensures { IfOk result (λ value. value ≡ found_value (option_copied object.entry)) }
 {
     match object {
         Some(object) => Ok(Value::Object(object.copy()?)),
@@ -330,7 +330,7 @@ fn copy_found(object: Option<&Object>) -> Result<Value, NoMemory>
 }
 
 fn is_found(object: Option<&Object>, value: &Value) -> bool
-    ensures { IsTrue result ↔ (value_found (object_found (option_copied object.entry)) ≡ value.now) }
+    ensures { IsTrue result ↔ (found_value (option_copied object.entry) ≡ value.now) }
 {
     match object {
         Some(object) => match value {
@@ -380,7 +380,7 @@ fn are_keys(entries: &BTreeMap<Key, Object>, keys: &[Key]) -> bool
 
 #[tactic(auto, using(crate::proofs::Keyed::entry_stored, crate::proofs::Keyed::entry_removed))]
 fn put_entry(entries: &mut BTreeMap<Key, Object>, key: &Key, value: Value) -> Result<(), NoMemory>
-    ensures ok { OnOk result (entries_of entries.new ≡ put_entry key.now value (entries_of entries.old)) }
+    ensures ok { OnOk result (entries_of entries.new ≡ entry_put key.now value entries.old) }
     ensures err { OnErr result (entries.new.entries ≡ entries.old.entries) }
 {
     match value {

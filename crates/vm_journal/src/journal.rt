@@ -5,8 +5,8 @@ ghost use Rattle.std.specs.BTreeMap.{is_at, insert_entry};
 ghost use Rattle.std.specs.FinMap.{get, from_entries};
 ghost use Rattle.ps_memory.specs.Order.{cell_cmp};
 ghost use Rattle.ps_memory.specs.Memory.{newer, is_slot, is_kind, held, spot_of};
-ghost use Rattle.vm_content.specs.Content.{slot_in, put_held};
-ghost use Rattle.vm_journal.specs.Journal.{loc_cmp, as_saved};
+ghost use Rattle.vm_content.specs.Content.{slot_in};
+ghost use Rattle.vm_journal.specs.Journal.{loc_cmp, with_note, SameCopy, Noted};
 ghost use Rattle.vm_content.specs.Maps.{cells_of};
 
 use ps_objects::{Cell, Loc, NoMemory, SaveName, Space, Value};
@@ -67,8 +67,8 @@ impl OpenSave {
         requires spot { spot_of at.now ≡ held cell (slot_in at.now) }
         requires place { is_slot (get (cells_of cells.now) cell) (slot_in at.now) ≡ true }
         ensures name { self.new.0 ≡ self.old.0 }
-        ensures same { as_saved self.new (cells_of cells.now) ≡ as_saved self.old (cells_of cells.now) }
-        ensures noted { OnOk result ((v : Value) → as_saved self.new (put_held (spot_of at.now) v (cells_of cells.now)) ≡ as_saved self.old (cells_of cells.now)) }
+        ensures same { SameCopy self.old self.new cells.now }
+        ensures noted { OnOk result (Noted self.old self.new at.now cells.now) }
     {
         if cell.is_newer_than(self.name) {
             return Ok(());
@@ -93,7 +93,7 @@ impl OpenSave {
     fn add(&mut self, at: Loc, value: Value) -> Result<(), NoMemory>
         requires kind { is_kind (spot_of at) value ≡ true }
         requires anew { is_some (lookup (is_at (loc_cmp at)) self.old.1) ≡ false }
-        ensures ok { OnOk result (self.new ≡ (self.old.0, insert_entry loc_cmp self.old.1 at value)) }
+        ensures ok { OnOk result (self.new ≡ with_note at value self.old) }
         ensures err { OnErr result (self.new ≡ self.old) }
     {
         self.before.insert(at, value)?;

@@ -1,16 +1,13 @@
 //! The local part of a memory.
-ghost use Rattle.std.specs.Prelude.{◌≡◌, Bool, true, false, [], ◌∷◌, Some, None, option_copied, reverse, MatchOption, IfOk, OnOk, OnErr};
-ghost use Rattle.std.specs.FinMap.{get, insert, remove, from_entries};
+ghost use Rattle.std.specs.Prelude.{◌≡◌, Bool, true, false, [], ◌∷◌, None, option_copied, reverse, IfOk, IfSome, IfNone, OnOk, OnErr};
+ghost use Rattle.std.specs.FinMap.{get, from_entries};
 ghost use Rattle.std.specs.List.{AllByRecursion};
 ghost use Rattle.ps_memory.specs.Order.{cell_cmp};
-ghost use Rattle.ps_memory.specs.Memory.{is_global, newer, is_slot, held, spot_of, put_content, put_cell};
-ghost use Rattle.ps_memory.specs.Frame.{later};
-ghost use Rattle.ps_memory.specs.Holders.{holds_string};
-ghost use Rattle.vm_content.specs.Content.{slot_in, put_held};
-ghost use Rattle.vm_content.specs.Back.{content_undone};
-ghost use Rattle.vm_journal.specs.Journal.{copies, cells_reverted, is_rising};
-ghost use Rattle.vm_journal.specs.Part.{AreLocal, HaveCells, Closes, is_empty, kept_from};
-ghost use Rattle.vm_content.specs.Maps.{cells_of};
+ghost use Rattle.ps_memory.specs.Memory.{is_global, newer, is_slot, held, spot_of};
+ghost use Rattle.vm_content.specs.Content.{slot_in};
+ghost use Rattle.vm_journal.specs.Journal.{is_rising, SameCopies, AllNoted, Reverts};
+ghost use Rattle.vm_journal.specs.Part.{AreLocal, HaveCells, LaterThanAll, ClosesNewest, HoldAlike, part_put, part_with, part_without, part_saved, part_undone, is_empty, kept_from};
+ghost use Rattle.vm_content.specs.Maps.{cells_of, AddsNone};
 
 use crate::journal::OpenSave;
 use ps_objects::{Cell, Loc, NoMemory, SaveName, Shape, Space, Value};
@@ -31,11 +28,11 @@ pub struct Locals {
 
 impl Model for Locals {
     ghost use Rattle.vm_content.specs.Maps.{cells_of};
-    ghost use Rattle.std.specs.Prelude.{◌≡◌, true, reverse};
+    ghost use Rattle.std.specs.Prelude.{reverse};
     ghost use Rattle.std.specs.FinMap.{from_entries};
     ghost use Rattle.ps_memory.specs.Order.{cell_cmp};
-    ghost use Rattle.vm_journal.specs.Journal.{copies, is_rising};
-    ghost use Rattle.vm_journal.specs.Part.{Part, part_code, AreLocal};
+    ghost use Rattle.vm_journal.specs.Journal.{copies};
+    ghost use Rattle.vm_journal.specs.Part.{Part, part_code, IsPart};
 
     ghost Value = { Part };
 
@@ -43,7 +40,7 @@ impl Model for Locals {
 
     ghost view = { λ part. record { cells = cells_of part.cells; kept = copies (reverse part.saves.items) (cells_of part.cells) } };
 
-    ghost invariant = { λ part. AreLocal (cells_of part.cells) × (is_rising (reverse part.saves.items) ≡ true) };
+    ghost invariant = { λ part. IsPart (cells_of part.cells) part.saves.items };
 }
 
 impl Locals {
@@ -72,7 +69,7 @@ impl Locals {
         requires spot { spot_of at.now ≡ held cell (slot_in at.now) }
         requires local { is_global cell ≡ false }
         requires place { is_slot (get self.old.cells cell) (slot_in at.now) ≡ true }
-        ensures ok { OnOk result (self.new ≡ record { cells = put_cell cell (put_content (slot_in at.now) value) self.old.cells; kept = self.old.kept }) }
+        ensures ok { OnOk result (self.new ≡ part_put cell at.now value self.old) }
         ensures err { OnErr result (self.new ≡ self.old) }
     {
         note(&mut self.saves, &self.cells, cell, at)?;
@@ -85,7 +82,7 @@ impl Locals {
     pub fn insert(&mut self, cell: Cell, content: Content) -> Result<(), NoMemory>
         requires local { is_global cell ≡ false }
         requires newest { AllByRecursion (λ k. newer cell k.0 ≡ true) self.old.kept }
-        ensures ok { OnOk result (self.new ≡ record { cells = insert self.old.cells cell content; kept = self.old.kept }) }
+        ensures ok { OnOk result (self.new ≡ part_with cell content self.old) }
         ensures err { OnErr result (self.new ≡ self.old) }
     {
         insert_cell(&mut self.cells, cell, content)?;
@@ -95,9 +92,9 @@ impl Locals {
     /// Opens a save.
     #[tactic(auto, using(crate::proofs::Parting::part_opened, crate::proofs::Parting::rising_opened))]
     pub fn open(&mut self, name: SaveName) -> Result<(), NoMemory>
-        requires latest { AllByRecursion (λ k. later name k.0 ≡ true) self.old.kept }
+        requires latest { LaterThanAll name self.old.kept }
         requires newest { (c : Cell) → newer c name ≡ true → get self.old.cells c ≡ None }
-        ensures ok { OnOk result (self.new ≡ record { cells = self.old.cells; kept = (name, self.old.cells) ∷ self.old.kept }) }
+        ensures ok { OnOk result (self.new ≡ part_saved name self.old) }
         ensures err { OnErr result (self.new ≡ self.old) }
     {
         let save = OpenSave::new(self.alloc, name);
@@ -112,9 +109,9 @@ impl Locals {
         strings: &mut BTreeMap<Cell, Bytes>,
     ) -> Result<Option<SaveName>, NoMemory>
         requires { HaveCells (cells_of strings.old) self.old.cells }
-        ensures closed { IfOk result (λ name. Closes name self.old self.new (cells_of strings.old) (cells_of strings.new)) }
+        ensures closed { IfOk result (ClosesNewest self.old self.new strings.old strings.new) }
         ensures cells { HaveCells (cells_of strings.new) self.new.cells }
-        ensures fewer { (c : Cell) → get (cells_of strings.old) c ≡ None → get (cells_of strings.new) c ≡ None }
+        ensures fewer { AddsNone (cells_of strings.old) (cells_of strings.new) }
     {
         let Some(save) = take_save(&mut self.saves) else {
             return Ok(None);
@@ -140,7 +137,7 @@ impl Locals {
     #[tactic(auto, using(crate::proofs::Unnoted::part_given, crate::proofs::Unnoted::local_given))]
     pub fn undo(&mut self, cell: Cell, before: Before)
         requires { self.old.kept ≡ [] }
-        ensures { self.new ≡ record { cells = put_cell cell (content_undone before) self.old.cells; kept = self.old.kept } }
+        ensures { self.new ≡ part_undone cell before self.old }
     {
         undo_in_cell(&mut self.cells, cell, before);
     }
@@ -149,7 +146,7 @@ impl Locals {
     #[tactic(auto, using(crate::proofs::Unnoted::part_forgotten, crate::proofs::Unnoted::local_forgotten))]
     pub fn remove(&mut self, cell: Cell)
         requires { self.old.kept ≡ [] }
-        ensures { self.new ≡ record { cells = remove self.old.cells cell; kept = self.old.kept } }
+        ensures { self.new ≡ part_without cell self.old }
     {
         remove_cell(&mut self.cells, cell);
     }
@@ -166,8 +163,8 @@ fn note(
     requires spot { spot_of at.now ≡ held cell (slot_in at.now) }
     requires place { is_slot (get (cells_of cells.now) cell) (slot_in at.now) ≡ true }
     ensures rising { is_rising (reverse saves.new.items) ≡ is_rising (reverse saves.old.items) }
-    ensures same { copies (reverse saves.new.items) (cells_of cells.now) ≡ copies (reverse saves.old.items) (cells_of cells.now) }
-    ensures noted { OnOk result ((v : Value) → copies (reverse saves.new.items) (put_held (spot_of at.now) v (cells_of cells.now)) ≡ copies (reverse saves.old.items) (cells_of cells.now)) }
+    ensures same { SameCopies saves.old.items saves.new.items cells.now }
+    ensures noted { OnOk result (AllNoted saves.old.items saves.new.items at.now cells.now) }
 {
     match saves.last_mut() {
         Some(save) => save.note(cells, cell, at),
@@ -185,7 +182,8 @@ fn add_save(saves: &mut Vec<OpenSave>, save: OpenSave) -> Result<(), NoMemory>
 }
 
 fn take_save(saves: &mut Vec<OpenSave>) -> Option<OpenSave>
-    ensures { MatchOption result ((reverse saves.old.items ≡ []) × (reverse saves.new.items ≡ [])) (λ save. reverse saves.old.items ≡ save ∷ reverse saves.new.items) }
+    ensures none { IfNone result ((reverse saves.old.items ≡ []) × (reverse saves.new.items ≡ [])) }
+    ensures some { IfSome result (λ s. reverse saves.old.items ≡ s ∷ reverse saves.new.items) }
 {
     saves.pop()
 }
@@ -215,9 +213,9 @@ fn drop_newer(
 /// Puts back what was noted.
 #[tactic(auto, using(crate::proofs::Reverting::nothing_reverted, crate::proofs::Reverting::one_reverted, crate::proofs::Reverting::all_reverted, crate::proofs::Reverting::still_kinds, crate::proofs::Reverting::still_gone))]
 fn revert(cells: &mut BTreeMap<Cell, Content>, notes: BTreeMap<Loc, Value>) -> Result<(), NoMemory>
-    ensures ok { OnOk result (cells_of cells.new ≡ cells_reverted notes.entries (cells_of cells.old)) }
-    ensures kinds { (c : Cell) → holds_string (get (cells_of cells.new) c) ≡ holds_string (get (cells_of cells.old) c) }
-    ensures gone { (c : Cell) → get (cells_of cells.old) c ≡ None → get (cells_of cells.new) c ≡ None }
+    ensures ok { OnOk result (Reverts notes.entries (cells_of cells.old) (cells_of cells.new)) }
+    ensures kinds { HoldAlike (cells_of cells.old) (cells_of cells.new) }
+    ensures gone { AddsNone (cells_of cells.old) (cells_of cells.new) }
 {
     let mut notes = notes;
     while let Some((at, value)) = notes.pop_first() {

@@ -1,13 +1,11 @@
 //! The maps of the memory with which a job starts.
 ghost use Rattle.std.specs.Prelude.{◌≡◌, ◌≤◌, [], length, IfOk, OnOk};
 ghost use Rattle.std.specs.FinMap.{from_entries, insert};
-ghost use Rattle.ps_objects.specs.declared.key.Key.TheVariants as key;
-ghost use Rattle.ps_objects.specs.declared.object.Kind.TheVariants as kind;
 ghost use Rattle.ps_objects.specs.declared.access.Access.TheVariants.{Unlimited, ReadOnly};
 ghost use Rattle.ps_memory.specs.Order.{cell_cmp, key_cmp};
 ghost use Rattle.ps_memory.specs.Memory.{dictionary, items, characters};
-ghost use Rattle.ps_meaning.specs.Start.{literal, operator, read_only_string, system_values, error_record_entries, start_locals, start_globals, start_strings};
-ghost use Rattle.vm_start.specs.StartMaps.{with_entries, operators_between, system_map, error_map};
+ghost use Rattle.ps_meaning.specs.Start.{literal, operator, read_only_string, start_locals, start_globals, start_strings};
+ghost use Rattle.vm_start.specs.StartMaps.{with_name, with_dict, with_system_values, operator_map, system_map, error_map, record_map};
 ghost use Rattle.vm_content.specs.Maps.{cells_of, entries_of};
 
 use ps_names::places::{FIRST_DEFAULT_ENTRY, OPERATOR_COUNT};
@@ -103,7 +101,7 @@ fn literal(kind: Kind) -> Object
 #[tactic(auto, using(crate::proofs::StartSteps::key_put))]
 fn put(alloc: Global, entries: &mut Entries, name: &[u8], object: Object) -> Result<(), NoMemory>
     requires { length name.now ≤ 127 }
-    ensures { OnOk result (entries_of entries.new ≡ insert (entries_of entries.old) (key.Name name.now) object) }
+    ensures { OnOk result (entries_of entries.new ≡ with_name name.now object entries.old) }
 {
     let name = Name::from_bytes(alloc, name)?;
     entries.insert(Key::Name(name), object)?;
@@ -115,7 +113,7 @@ fn put(alloc: Global, entries: &mut Entries, name: &[u8], object: Object) -> Res
 fn operators(alloc: Global, from: u16, to: u16) -> Result<Entries, NoMemory>
     requires order { from ≤ to }
     requires listed { to ≤ OPERATOR_COUNT }
-    ensures { IfOk result (λ entries. entries_of entries ≡ from_entries (operators_between from to)) }
+    ensures { IfOk result (λ entries. entries_of entries ≡ operator_map from to) }
 {
     let mut entries = BTreeMap::new(alloc);
     for index in (from..to).rev() {
@@ -148,7 +146,7 @@ fn system_dict(alloc: Global) -> Result<Content, NoMemory>
 
 /// Puts the values of the system dictionary that are no operators.
 fn put_values(alloc: Global, entries: &mut Entries) -> Result<(), NoMemory>
-    ensures { OnOk result (entries_of entries.new ≡ with_entries system_values (entries_of entries.old)) }
+    ensures { OnOk result (entries_of entries.new ≡ with_system_values entries.old) }
 {
     put(alloc, entries, b"product", read_only_string(PRODUCT))?;
     put(alloc, entries, b"version", read_only_string(VERSION))?;
@@ -175,7 +173,7 @@ fn put_values(alloc: Global, entries: &mut Entries) -> Result<(), NoMemory>
 /// Puts a dictionary under a name.
 fn put_dict(alloc: Global, entries: &mut Entries, name: &[u8], dict: Cell) -> Result<(), NoMemory>
     requires { length name.now ≤ 127 }
-    ensures { OnOk result (entries_of entries.new ≡ insert (entries_of entries.old) (key.Name name.now) (literal (kind.Dict dict))) }
+    ensures { OnOk result (entries_of entries.new ≡ with_dict name.now dict entries.old) }
 {
     put(alloc, entries, name, literal(Kind::Dict(dict)))
 }
@@ -195,7 +193,7 @@ fn read_only_string(cell: Cell) -> Object
     }
 }
 
-/// The dictionary of errors: each one's default entry under its name (section 3.11.2 of the language manual: error
+/// The dictionary of errors: each one's default entry under its name (section 3.10 of the language manual: error
 /// handling).
 #[tactic(auto, using(crate::proofs::StartSteps::errors_made))]
 fn error_dict(alloc: Global) -> Result<Content, NoMemory>
@@ -208,7 +206,7 @@ fn error_dict(alloc: Global) -> Result<Content, NoMemory>
 /// The record of the last error, of which there is none.
 #[tactic(auto, using(crate::proofs::StartSteps::record_made))]
 fn error_record(alloc: Global) -> Result<Content, NoMemory>
-    ensures { IfOk result (λ content. content ≡ dictionary 0 Unlimited (from_entries error_record_entries)) }
+    ensures { IfOk result (λ content. content ≡ dictionary 0 Unlimited record_map) }
 {
     let mut entries = BTreeMap::new(alloc);
     put(
