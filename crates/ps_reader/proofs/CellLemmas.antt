@@ -1,11 +1,9 @@
 -- New cells: their names, and the changes that make them.
 use Rattle.std.proofs.Common.{◌≡◌, ◌≢◌, ℕ, zero, suc, ◌+◌, ◌<◌, ◌≤◌, ◌%◌, Bool, true, false, List, [], ◌∷◌, ◌++◌, drop, length, get_or, Some, slice_get, refl, sym, ap, ◌∙◌, subst, arith}
-use Rattle.std.specs.List.{AllByRecursion}
 use Rattle.ps_objects.specs.Object.{whole_of}
 use Rattle.ps_objects.specs.declared.cell.Cell.{Cell}
 use Rattle.ps_objects.specs.declared.cell.Space.{Space}
 use Rattle.ps_objects.specs.declared.object.Object.{Object}
-use Rattle.ps_objects.specs.declared.objects.Interval.{Interval}
 use Rattle.ps_objects.specs.declared.place.Loc.TheVariants as loc
 use Rattle.ps_objects.specs.declared.place.Shape.TheVariants as shape
 use Rattle.ps_objects.specs.declared.place.Value.TheVariants as value

@@ -1,15 +1,15 @@
 -- The end of a reading: its cells are made.
-use Rattle.std.proofs.Common.{◌≡◌, ℕ, ◌+◌, ◌*◌, ◌<◌, ◌≤◌, ◌^◌, List, [], ◌∷◌, length, refl, sym, ap, ◌∙◌, subst, arith}
+use Rattle.std.proofs.Common.{◌≡◌, ℕ, ◌+◌, ◌*◌, ◌≤◌, List, [], ◌∷◌, length, refl, sym, ap, ◌∙◌, subst, arith}
 use Rattle.ps_objects.specs.declared.section.SectionKind.{SectionKind}
 use Rattle.ps_objects.specs.declared.section.SectionKind.TheVariants.{Prolog, Setup, Page, Trailer}
 use Rattle.ps_kinds.specs.declared.state.State.{State}
 use Rattle.ps_memory.specs.Memory.{Memory, Output}
-use Rattle.ps_memory.specs.Tree.{Change, puts, makes, opens, Tree, changes, action_of, Application}
+use Rattle.ps_memory.specs.Tree.{Change, puts, makes, opens, Tree, changes, action_of}
 use Rattle.ps_meaning.specs.Answer.{Log, acted_in, changed_in, names_taken}
 use Rattle.ps_meaning.specs.Budgets.{turn_budget, unit_budget}
 use Rattle.ps_meaning.specs.Ready.{Ready}
-use Rattle.ps_execution.specs.Execution.{Read, reads, ends_scan}
-use Rattle.ps_execution.specs.Gather.{Scanned, gather}
+use Rattle.ps_execution.specs.Execution.{Read, ends_scan}
+use Rattle.ps_execution.specs.Gather.{gather}
 use Rattle.ps_execution.specs.Reached.{Reached, reached, came}
 use Rattle.ps_reader.specs.Cells.{changes_of}
 use Rattle.ps_reader.specs.Gathered.{Leads, ends_with}

@@ -1,17 +1,15 @@
 -- Items of open braces.
-use Rattle.std.proofs.Common.{◌≡◌, ℕ, suc, ◌+◌, ◌<◌, ◌≤◌, Bool, true, false, cond, nat_lt, nat_le, List, [], ◌∷◌, ◌++◌, length, map, reverse, Option, Some, None, refl, sym, ap, ◌∙◌, subst, arith}
+use Rattle.std.proofs.Common.{◌≡◌, ℕ, suc, ◌+◌, ◌<◌, ◌≤◌, Bool, true, false, cond, nat_lt, nat_le, List, [], ◌∷◌, ◌++◌, length, map, reverse, Some, None, refl, sym, ap, ◌∙◌, arith}
 use Rattle.std.proofs.lemmas.List.{length-reverse, reverse-append, length-append}
 use Rattle.ps_names.specs.declared.error_name.ErrorName.TheVariants.{LimitCheck, VmError}
 use Rattle.ps_objects.specs.declared.object.Object.{Object}
 use Rattle.ps_objects.specs.declared.section.SectionKind.{SectionKind}
 use Rattle.ps_kinds.specs.declared.state.State.{State}
 use Rattle.ps_meaning.specs.Budgets.{unit_budget}
-use Rattle.ps_memory.specs.Tree.{Application}
 use Rattle.ps_execution.specs.Gather as meaning
 use Rattle.ps_execution.specs.Gather.{Onward, Scanned, scanned, bad}
-use Rattle.ps_reader.specs.Gathered.{told, with_brace, IsGathered, unpaid, after, Is}
+use Rattle.ps_reader.specs.Gathered.{told, with_brace, IsGathered, Is}
 use Rattle.ps_reader.specs.declared.gathering.Gathering.{Gathering}
-use Rattle.ps_reader.specs.declared.spelt.Spelt.{Spelt}
 use Rattle.ps_reader.specs.declared.spelt.Spelt.TheVariants as spelt
 
 less : (a b : ℕ) → a < b → nat_lt a b ≡ true

@@ -10,7 +10,7 @@ use Rattle.ps_objects.specs.declared.place.Loc.TheVariants as loc
 use Rattle.ps_objects.specs.declared.place.Value.{Value}
 use Rattle.ps_objects.specs.declared.place.Value.TheVariants as value
 use Rattle.ps_kinds.specs.declared.state.State.{State}
-use Rattle.ps_memory.specs.Memory.{value_at, shape_of, Output}
+use Rattle.ps_memory.specs.Memory.{value_at, shape_of}
 use Rattle.ps_memory.specs.Tree.{Application, done, restores, fail, look, ask}
 use Rattle.ps_meaning.specs.Answer.{Log, looked_in}
 use Rattle.ps_operator.specs.Keys.{find, found_or}

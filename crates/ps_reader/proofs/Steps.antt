@@ -1,9 +1,8 @@
 -- Steps of a scan.
-use Rattle.std.proofs.Common.{◌≡◌, ◌≢◌, ℕ, zero, suc, ◌+◌, ◌-◌, ◌<◌, ◌≤◌, Bool, true, false, List, [], ◌∷◌, length, map, reverse, Option, Some, None, refl, sym, ap, ◌∙◌, subst, arith}
+use Rattle.std.proofs.Common.{◌≡◌, ◌≢◌, ℕ, suc, ◌+◌, ◌-◌, ◌<◌, ◌≤◌, List, [], ◌∷◌, length, map, reverse, Some, None, refl, sym, ap, ◌∙◌, subst, arith}
 use Rattle.ps_names.specs.declared.error_name.ErrorName.TheVariants.{SyntaxError}
 use Rattle.ps_objects.specs.declared.object.Object.{Object}
 use Rattle.ps_kinds.specs.declared.state.State.{State}
-use Rattle.ps_memory.specs.Memory.{Output}
 use Rattle.ps_memory.specs.Tree.{Application}
 use Rattle.ps_meaning.specs.Answer.{Log}
 use Rattle.ps_meaning.specs.Budgets.{unit_budget}
@@ -12,7 +11,7 @@ use Rattle.ps_execution.specs.Gather as meaning
 use Rattle.ps_execution.specs.Gather.{Onward, Scanned, scanned, gather, gather_from, gather_scan}
 use Rattle.ps_execution.specs.Reached.{reached}
 use Rattle.ps_scan.specs.Token.{token_at}
-use Rattle.ps_reader.specs.Gathered.{told, IsGathered, after, Leads, Steps, ends_with}
+use Rattle.ps_reader.specs.Gathered.{told, IsGathered, Leads, Steps, ends_with}
 use Rattle.ps_reader.specs.Reading.{spelt_of}
 use Rattle.ps_reader.specs.declared.gathering.Gathering.{Gathering}
 use Rattle.ps_reader.specs.declared.spelt.Spelt.{Spelt}

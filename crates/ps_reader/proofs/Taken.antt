@@ -1,6 +1,5 @@
 -- Strings and braces, which take cells.
-use Rattle.std.proofs.Common.{◌≡◌, ℕ, suc, ◌+◌, ◌<◌, ◌≤◌, ◌^◌, Bool, true, false, cond, nat_lt, nat_le, List, [], ◌∷◌, ◌++◌, length, map, reverse, Option, Some, None, refl, sym, ap, ◌∙◌, subst, arith}
-use Rattle.std.specs.List.{AllByRecursion}
+use Rattle.std.proofs.Common.{◌≡◌, ℕ, suc, ◌+◌, ◌<◌, ◌≤◌, Bool, true, false, cond, nat_lt, nat_le, List, [], ◌∷◌, ◌++◌, length, map, reverse, Some, None, refl, sym, ap, ◌∙◌, subst, arith}
 use Rattle.std.proofs.lemmas.List.{length-reverse, reverse-reverse, length-append}
 use Rattle.ps_names.specs.declared.error_name.ErrorName.TheVariants.{LimitCheck, SyntaxError, VmError}
 use Rattle.ps_objects.specs.Object.{whole_of}
@@ -15,11 +14,10 @@ use Rattle.ps_meaning.specs.Start.{literal}
 use Rattle.ps_execution.specs.Gather as meaning
 use Rattle.ps_execution.specs.Gather.{Onward, scanned, bad, string_units, body_object}
 use Rattle.ps_reader.specs.Cells.{cell_at, IsSmall, AreSmall, made_of, changes_of}
-use Rattle.ps_reader.specs.Gathered.{told, with_brace, IsGathered, after, Is}
+use Rattle.ps_reader.specs.Gathered.{told, with_brace, IsGathered, Is}
 use Rattle.ps_reader.specs.declared.cells.Content.{Content}
 use Rattle.ps_reader.specs.declared.cells.Content.TheVariants.{Bytes, Items}
 use Rattle.ps_reader.specs.declared.gathering.Gathering.{Gathering}
-use Rattle.ps_reader.specs.declared.spelt.Spelt.{Spelt}
 use Rattle.ps_reader.specs.declared.spelt.Spelt.TheVariants as spelt
 use Rattle.ps_reader.proofs.CellLemmas.{cells_more}
 

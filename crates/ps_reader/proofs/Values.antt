@@ -6,7 +6,7 @@ use Rattle.ps_objects.specs.declared.object.Object.{Object}
 use Rattle.ps_kinds.specs.declared.state.State.{State}
 use Rattle.ps_execution.specs.Gather as meaning
 use Rattle.ps_execution.specs.Gather.{Onward, names_local, scanned, bad}
-use Rattle.ps_reader.specs.Gathered.{told, after, Is}
+use Rattle.ps_reader.specs.Gathered.{told, Is}
 use Rattle.ps_reader.specs.declared.gathering.Gathering.{Gathering}
 use Rattle.ps_reader.specs.declared.spelt.Spelt.TheVariants as spelt
 

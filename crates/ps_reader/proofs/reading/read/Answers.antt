@@ -1,4 +1,4 @@
-use Rattle.std.proofs.Common.{◌≡◌, ◌+◌, length, sym, subst}
+use Rattle.std.proofs.Common.{◌+◌, sym, subst}
 use Rattle.ps_kinds.specs.declared.state.State.{State}
 use Rattle.ps_reader.specs.Reading.{Reads, spelt_of}
 use Rattle.ps_reader.proofs.Ending.{read_ends}

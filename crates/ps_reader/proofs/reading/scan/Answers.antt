@@ -1,4 +1,4 @@
-use Rattle.std.proofs.Common.{◌≡◌, ◌+◌, ◌≤◌, length, Some, None, refl, sym, subst, ◌∙◌, arith}
+use Rattle.std.proofs.Common.{◌≡◌, ◌+◌, length, refl, sym, subst, ◌∙◌, arith}
 use Rattle.ps_execution.specs.Gather.{gather}
 use Rattle.ps_reader.specs.Gathered.{IsGathered, unpaid, Leads, Steps, ends_with}
 use Rattle.ps_reader.proofs.Steps.{begun_gathered, left_first, left_on, left_ends, left_none}

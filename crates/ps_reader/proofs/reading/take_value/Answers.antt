@@ -1,4 +1,4 @@
-use Rattle.std.proofs.Common.{Err, Some, sym, subst}
+use Rattle.std.proofs.Common.{Err, sym, subst}
 use Rattle.ps_objects.specs.declared.key.Key.TheVariants as key
 use Rattle.ps_execution.specs.Gather as meaning
 use Rattle.ps_operator.specs.Keys.{find}
