@@ -7,10 +7,9 @@ use Rattle.ps_objects.specs.declared.object.Kind.TheVariants as kind
 use Rattle.ps_objects.specs.declared.objects.Interval.{Interval}
 use Rattle.ps_objects.specs.declared.place.Loc.TheVariants as loc
 use Rattle.ps_objects.specs.declared.place.Shape.TheVariants as shape
-use Rattle.ps_objects.specs.declared.place.Value.TheVariants as value
 use Rattle.ps_kinds.specs.declared.frame.Frame.TheVariants as frame
 use Rattle.ps_kinds.specs.declared.state.State.{State}
-use Rattle.ps_memory.specs.Memory.{Memory, Output, null_object, value_at}
+use Rattle.ps_memory.specs.Memory.{Memory, Output, value_at}
 use Rattle.ps_meaning.specs.Answer.{Log, looked_in}
 use Rattle.ps_objects.specs.Object.{cell_named}
 use Rattle.ps_meaning.specs.Fits.{FitsCell, takes}

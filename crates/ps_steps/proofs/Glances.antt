@@ -1,5 +1,5 @@
 -- What glances tell.
-use Rattle.std.proofs.Common.{◌≡◌, ℕ, ◌+◌, true, List, Option, Some, None, option_map, Ok, refl, sym, ap, ◌∙◌, subst}
+use Rattle.std.proofs.Common.{◌≡◌, true, List, Some, option_map, Ok, sym, ap, ◌∙◌, subst}
 use Rattle.ps_objects.specs.declared.cell.Cell.{Cell}
 use Rattle.ps_objects.specs.declared.key.Key.{Key}
 use Rattle.ps_objects.specs.declared.object.Object.{Object}

@@ -1,5 +1,5 @@
 -- What executing an object leads to.
-use Rattle.std.proofs.Common.{◌≡◌, ℕ, Bool, true, false, true≢false, cond, [], Some, None, Result, Ok, refl, sym, ap, ◌∙◌, subst}
+use Rattle.std.proofs.Common.{◌≡◌, ℕ, true, false, true≢false, cond, [], Some, None, Result, Ok, refl, sym, ap, ◌∙◌, subst}
 use Rattle.copy_lists.specs.declared.memory.NoMemory.{NoMemory}
 use Rattle.ps_names.specs.declared.error_name.ErrorName.TheVariants.{Undefined}
 use Rattle.ps_objects.specs.declared.access.Access.{Access}

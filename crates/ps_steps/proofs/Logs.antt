@@ -1,5 +1,5 @@
 -- The paper stays where it is.
-use Rattle.std.proofs.Common.{◌≡◌, ℕ, Bool, true, false, cond, List, [], ◌∷◌, drop, Ok, sym, ap, subst}
+use Rattle.std.proofs.Common.{◌≡◌, ℕ, Bool, true, false, cond, List, [], ◌∷◌, drop, Ok, sym, subst}
 use Rattle.ps_kinds.specs.declared.act.Act.{Act}
 use Rattle.ps_kinds.specs.declared.act.Act.TheVariants as act
 use Rattle.ps_kinds.specs.declared.frame.Frame.{Frame}
@@ -8,13 +8,13 @@ use Rattle.ps_objects.specs.declared.place.Loc.TheVariants as loc
 use Rattle.ps_objects.specs.declared.place.Value.TheVariants as value
 use Rattle.ps_memory.specs.Memory.{value_at, shape_of, blank, store, restore}
 use Rattle.ps_memory.specs.Tree.{Change, action_of, done, restores, fail, look, ask}
-use Rattle.ps_meaning.specs.Answer.{Log, looked_in, acted_in, changed_in, is_outer, names_taken, act_done, state_done, Answer, answer, answer_over, step_answer}
+use Rattle.ps_meaning.specs.Answer.{Log, looked_in, acted_in, changed_in, is_outer, names_taken, act_done, state_done, Answer, answer_over}
 use Rattle.vm_mem.specs.Conditions.{page_is_here}
 use Rattle.vm_mem.proofs.Conditions.{here_after}
 use Rattle.ps_operator.specs.Tree.{Ask}
 use Rattle.ps_operator.specs.Owes.{Runs, RunsStep}
 use Rattle.ps_execution.specs.Table.{Leaving}
-use Rattle.ps_steps.specs.Operators.{wiped_in, left_in, Leaves}
+use Rattle.ps_steps.specs.Operators.{wiped_in, Leaves}
 
 abbrev IsHere : Log → Type 0
 IsHere log = page_is_here log.view ≡ true

@@ -8,7 +8,6 @@ use Rattle.ps_objects.specs.declared.place.Loc.{Loc}
 use Rattle.ps_objects.specs.declared.place.Value.TheVariants as value
 use Rattle.ps_kinds.specs.declared.act.Act.{Act}
 use Rattle.ps_kinds.specs.declared.state.State.{State}
-use Rattle.std.specs.Bool.{⊤}
 use Rattle.std.specs.Prelude.{OnOk}
 use Rattle.ps_shapes.specs.Sheet.{Sheet}
 use Rattle.ps_memory.specs.Memory.{Memory, Output, here, value_at}

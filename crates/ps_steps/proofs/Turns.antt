@@ -1,12 +1,12 @@
 -- One turn.
-use Rattle.std.proofs.Common.{◌+◌, ◌*◌, ◌≤◌, ◌≡◌, ℕ, zero, suc, ◌<◌, ◌-◌, true, false, List, [], refl, sym, ap, ◌∙◌, subst, arith, Ok}
+use Rattle.std.proofs.Common.{◌+◌, ◌*◌, ◌≤◌, ◌≡◌, ℕ, zero, suc, ◌<◌, ◌-◌, true, false, List, [], refl, sym, ap, ◌∙◌, subst, arith}
 use Rattle.ps_objects.specs.declared.object.Object.{Object}
 use Rattle.ps_kinds.specs.declared.act.Act.{Act}
 use Rattle.ps_kinds.specs.declared.act.Act.TheVariants as act
 use Rattle.ps_kinds.specs.declared.state.State.{State}
 use Rattle.ps_memory.specs.Memory.{Memory, Output}
 use Rattle.ps_memory.specs.Tree.{Tree, ends, ◌>>=◌}
-use Rattle.ps_meaning.specs.Answer.{Log, Answer, answer}
+use Rattle.ps_meaning.specs.Answer.{Log}
 use Rattle.ps_meaning.specs.Registers.{world_of}
 use Rattle.ps_execution.specs.Budgets.{left, counted, taking}
 use Rattle.ps_meaning.specs.Budgets.{turn_budget, unit_budget}

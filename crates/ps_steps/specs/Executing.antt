@@ -1,5 +1,5 @@
 -- Executing an object.
-use Rattle.std.specs.Prelude.{◌≡◌, ℕ, Bool, true, false, List, [], Option, Some, None}
+use Rattle.std.specs.Prelude.{◌≡◌, ℕ, Bool, true, false, [], Option, Some, None}
 use Rattle.ps_names.specs.declared.error_name.ErrorName.TheVariants.{Undefined}
 use Rattle.ps_objects.specs.declared.access.Access.{Access}
 use Rattle.ps_objects.specs.declared.object.Kind.{Kind}

@@ -1,7 +1,6 @@
 -- What the machine does next, as a move.
 use Rattle.std.specs.Prelude.{◌≡◌, Bool, true, false, List, [], Result, Ok, Err, ℕ, ⊤}
 use Rattle.copy_lists.specs.declared.memory.NoMemory.{NoMemory}
-use Rattle.ps_objects.specs.declared.cell.SaveName.{SaveName}
 use Rattle.ps_kinds.specs.declared.state.State.{State}
 use Rattle.ps_memory.specs.Memory.{message, tell}
 use Rattle.ps_memory.specs.Tree.{Tree, ends, acts}

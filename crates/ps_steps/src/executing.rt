@@ -33,7 +33,8 @@ fn nothing() -> Object {
 }
 
 fn pushed(object: Object, state: &mut State) -> Result<(Act, Object), NoMemory>
-    ensures { (log : Log) → Executed object (answer (spec.pushes object state.old) state.old log) result state.new log }
+    ensures { (log : Log) → Executed object
+        (answer (spec.pushes object state.old) state.old log) result state.new log }
 {
     match state.regs.operands.room(1) {
         Ok(()) => {
@@ -46,7 +47,8 @@ fn pushed(object: Object, state: &mut State) -> Result<(Act, Object), NoMemory>
 
 /// Pushes an object, or raises its error.
 fn push_object(object: Object, state: &mut State) -> Result<Next, NoMemory>
-    ensures { (P : Program) (log : Log) → Comes (led P object (answer (spec.pushes object state.old) state.old log))
+    ensures { (P : Program) (log : Log) → Comes
+        (led P object (answer (spec.pushes object state.old) state.old log))
         result state.new log }
 {
     match state.regs.operands.room(1) {
@@ -67,7 +69,8 @@ fn is_done(act: &Act) -> bool
 }
 
 fn procedure_run(object: Object, len: u32, state: &State) -> Result<(Act, Object), NoMemory>
-    ensures { (log : Log) → Executed object (answer (spec.runs_procedure object len state.now) state.now log) result state.now log }
+    ensures { (log : Log) → Executed object
+        (answer (spec.runs_procedure object len state.now) state.now log) result state.now log }
 {
     if let Err(error) = object.access.runnable() {
         return Ok((Act::Fail(error), object));
@@ -96,7 +99,9 @@ fn string_run<M: Mem>(
     mem: &mut M,
 ) -> Result<(Act, Object), NoMemory>
     requires { is_string (M.log mem.old).view string ≡ true }
-    ensures meets { Executed object (answer (spec.runs_string object string state.now) state.now (M.log mem.old)) result state.now (M.log mem.new) }
+    ensures meets { Executed object
+        (answer (spec.runs_string object string state.now) state.now (M.log mem.old))
+        result state.now (M.log mem.new) }
     ensures view { OnOk result ((M.log mem.new).view ≡ (M.log mem.old).view) }
 {
     match object.access.runnable() {
@@ -232,7 +237,9 @@ pub(crate) fn run_value<M: Mem, T: Operators<M>>(
 ) -> Result<(Act, Object), NoMemory>
     requires ready { IsReady 1 text.now state.old (M.log mem.old).view }
     requires fits { FitsHere (M.log mem.old).view object }
-    ensures meets { Executed object (answer (spec.runs_value (program T.table text.now) object state.old) state.old (M.log mem.old)) result state.new (M.log mem.new) }
+    ensures meets { Executed object
+        (answer (spec.runs_value (program T.table text.now) object state.old) state.old
+        (M.log mem.old)) result state.new (M.log mem.new) }
     ensures here { OnOk result (page_is_here (M.log mem.new).view ≡ true) }
 {
     if let Some(op) = operator_of(&object.kind) {
@@ -361,7 +368,8 @@ fn run_bound<M: Mem, T: Operators<M>>(
 ) -> Result<Next, NoMemory>
     requires { IsReady 1 text.now state.old (M.log mem.old).view }
     ensures { Comes (led (program T.table text.now) (object_of (Met.Operator op))
-        (met_answer (program T.table text.now) (object_of (Met.Operator op)) state.old (M.log mem.old)))
+        (met_answer (program T.table text.now) (object_of (Met.Operator op)) state.old
+        (M.log mem.old)))
         result state.new (M.log mem.new) }
 {
     let act = run_operator::<M, T>(op, text, state, mem)?;

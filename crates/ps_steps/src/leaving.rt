@@ -66,8 +66,8 @@ pub(crate) fn throw<M: Mem, T: Operators<M>>(
     mem: &mut M,
 ) -> Result<Next, NoMemory>
     requires { page_is_here (M.log mem.old).view ≡ true }
-    ensures { Makes (unwound (program T.table text.now) state.old.frames (outcome_at stop) state.old)
-        (M.log mem.old) result state.new (M.log mem.new) }
+    ensures { Makes (unwound (program T.table text.now) state.old.frames (outcome_at stop)
+        state.old) (M.log mem.old) result state.new (M.log mem.new) }
 {
     while let Some(frame) = state.frames.pop() {
         let taken = takes::<M, T>(&frame, stop, text, state, mem);

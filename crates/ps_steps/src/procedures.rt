@@ -34,10 +34,11 @@ fn take_item<M: Mem, T: Operators<M>>(
     state: &mut State,
     mem: &mut M,
 ) -> Result<Next, NoMemory>
-    requires ready { IsReady 0 text.now (on (frame.Proc body at ∷ state.old.frames) state.old) (M.log mem.old).view }
+    requires ready { IsReady 0 text.now (on (frame.Proc body at ∷ state.old.frames) state.old)
+        (M.log mem.old).view }
     requires array { interval_of body.kind ≡ Some array }
-    ensures { Makes (move_item (program T.table text.now) body array.cell array.start at (array.len - at) state.old) (M.log mem.old)
-        result state.new (M.log mem.new) }
+    ensures { Makes (move_item (program T.table text.now) body array.cell array.start at
+        (array.len - at) state.old) (M.log mem.old) result state.new (M.log mem.new) }
 {
     if at >= array.len {
         return Ok(Next::Goes);
@@ -60,9 +61,10 @@ pub(crate) fn procedure_step<M: Mem, T: Operators<M>>(
     state: &mut State,
     mem: &mut M,
 ) -> Result<Next, NoMemory>
-    requires { IsReady 0 text.now (on (frame.Proc body at ∷ state.old.frames) state.old) (M.log mem.old).view }
-    ensures { Makes (move_procedure (program T.table text.now) body body.kind at state.old) (M.log mem.old)
-        result state.new (M.log mem.new) }
+    requires { IsReady 0 text.now (on (frame.Proc body at ∷ state.old.frames) state.old)
+        (M.log mem.old).view }
+    ensures { Makes (move_procedure (program T.table text.now) body body.kind at state.old)
+        (M.log mem.old) result state.new (M.log mem.new) }
 {
     match interval_of(&body.kind) {
         Some(array) => take_item::<M, T>(alloc, array, body, at, text, state, mem),

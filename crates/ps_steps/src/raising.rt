@@ -89,7 +89,8 @@ fn entry<M: Mem>(
     mem: &mut M,
 ) -> Result<Object, NoMemory>
     requires { IsReady 1 text.now state.now (M.log mem.old).view }
-    ensures value { IfOk result (λ x. x ≡ spec.entry_in error (length state.now.frames) (value_at (M.log mem.old).view (spec.error_entry error))) }
+    ensures value { IfOk result (λ x. x ≡ spec.entry_in error
+        (length state.now.frames) (value_at (M.log mem.old).view (spec.error_entry error))) }
     ensures log { OnOk result (M.log mem.new ≡ looked_in (M.log mem.old) (spec.error_entry error)) }
 {
     let place = place_of(alloc, error)?;

@@ -43,9 +43,10 @@ pub(crate) fn string_step<M: Mem, T: Operators<M>>(
     state: &mut State,
     mem: &mut M,
 ) -> Result<Next, NoMemory>
-    requires { IsReady 0 text.now (on (frame.Text string bytes place ∷ state.old.frames) state.old) (M.log mem.old).view }
-    ensures { Makes (string_move (program T.table text.now) string bytes place state.old) (M.log mem.old)
-        result state.new (M.log mem.new) }
+    requires { IsReady 0 text.now (on (frame.Text string bytes place ∷ state.old.frames) state.old)
+        (M.log mem.old).view }
+    ensures { Makes (string_move (program T.table text.now) string bytes place state.old)
+        (M.log mem.old) result state.new (M.log mem.new) }
 {
     let (spelt, place) = read_string::<M, T>(alloc, &bytes, place, text, state, mem)?;
     match spelt {

@@ -24,7 +24,8 @@ fn walk_step<M: Mem, T: Operators<M>>(
     state: &mut State,
     mem: &mut M,
 ) -> Result<Next, NoMemory>
-    requires ready { IsReady 0 text.now (on (frame ∷ state.old.frames) state.old) (M.log mem.old).view }
+    requires ready { IsReady 0 text.now (on (frame ∷ state.old.frames) state.old)
+        (M.log mem.old).view }
     requires takes_steps { takes_steps frame ≡ true }
     ensures { Makes (spec.move_walk (program T.table text.now) frame state.old) (M.log mem.old)
         result state.new (M.log mem.new) }

@@ -49,8 +49,8 @@ pub(crate) fn turn<M: Mem, T: Operators<M>>(
 ) -> Result<Next, NoMemory>
     requires ready { IsReady 1 text.now state.old (M.log mem.old).view }
     requires fits { FitsHere (M.log mem.old).view (object_of met) }
-    ensures { Makes (object_turn (program T.table text.now) (object_of met) state.old) (M.log mem.old)
-        result state.new (M.log mem.new) }
+    ensures { Makes (object_turn (program T.table text.now) (object_of met) state.old)
+        (M.log mem.old) result state.new (M.log mem.new) }
 {
     if !take_turn(state) {
         state.frames.clear();
