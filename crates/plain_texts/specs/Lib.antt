@@ -1,0 +1,2 @@
+pub mod Reals
+pub mod Plain

@@ -1,0 +1,7 @@
+pub mod CellLemmas
+pub mod Items
+pub mod Values
+pub mod Taken
+pub mod Names
+pub mod Steps
+pub mod Ending
