@@ -24,7 +24,7 @@ use Rattle.ps_execution.specs.Table.{Program}
 use Rattle.ps_execution.proofs.Lawful.{whole_on}
 use Rattle.ps_execution.proofs.Objects.{array_stands, item_fits}
 use Rattle.ps_steps.specs.Operators.{FitsHere}
-use Rattle.ps_steps.specs.Reading.{IsReady}
+use Rattle.ps_reader.specs.Reading.{IsReady}
 use Rattle.ps_steps.specs.Procedures.{interval_of}
 use Rattle.ps_steps.proofs.Moves.{more_ready}
 use Rattle.ps_operator.specs.Standing.{is_array, is_named}

@@ -25,7 +25,7 @@ use Rattle.ps_operator.specs.Keys.{bytes_from, bytes_of}
 use Rattle.ps_operator.specs.Standing.{is_string, is_named}
 use Rattle.ps_operator.proofs.Standing.{named}
 use Rattle.ps_steps.specs.Operators.{FitsHere, Executed}
-use Rattle.ps_steps.specs.Reading.{IsReady}
+use Rattle.ps_reader.specs.Reading.{IsReady}
 use Rattle.copy_lists.specs.declared.memory.NoMemory.{NoMemory}
 use Rattle.ps_kinds.specs.declared.act.Act.{Act}
 use Rattle.ps_steps.proofs.Turns.{ready_in}

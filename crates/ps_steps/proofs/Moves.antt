@@ -12,7 +12,7 @@ use Rattle.ps_execution.specs.Machine.{goes, raised, move_frame, move_on}
 use Rattle.ps_execution.specs.Reached.{reached}
 use Rattle.ps_execution.specs.Table.{Program}
 use Rattle.ps_steps.specs.Operators.{FitsHere}
-use Rattle.ps_steps.specs.Reading.{IsReady}
+use Rattle.ps_reader.specs.Reading.{IsReady}
 use Rattle.ps_steps.specs.Texts.{section_move}
 
 pub more_ready : (text : List ℕ) (s : State) (M : Memory) → IsReady 0 text s M → IsReady 1 text s M

@@ -30,7 +30,7 @@ use Rattle.ps_meaning.proofs.Memory.{placed}
 use Rattle.vm_mem.specs.Conditions.{is_here, page_is_here, MayLook}
 use Rattle.vm_mem.proofs.Conditions.{may_look}
 use Rattle.ps_steps.specs.Operators.{FitsHere, Executed, CountsTurn}
-use Rattle.ps_steps.specs.Reading.{IsReady}
+use Rattle.ps_reader.specs.Reading.{IsReady}
 use Rattle.ps_steps.proofs.Turns.{settled_object, turn_ready}
 
 here_so : (M : Memory) (p : Sheet) → M.page ≡ here p → page_is_here M ≡ true

@@ -35,7 +35,7 @@ use Rattle.ps_execution.specs.Reached.{came, settled}
 use Rattle.ps_execution.specs.Table.{Program}
 use Rattle.ps_steps.specs.Executing.{name_object, name_answer, led}
 use Rattle.ps_steps.specs.Operators.{FitsHere}
-use Rattle.ps_steps.specs.Reading.{IsReady}
+use Rattle.ps_reader.specs.Reading.{IsReady}
 use Rattle.ps_steps.proofs.Turns.{ready_in}
 
 abbrev Same : Result Object ErrorName → Result Object ErrorName → Type 0

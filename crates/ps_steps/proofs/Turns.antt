@@ -23,7 +23,7 @@ use Rattle.ps_execution.proofs.Lawful.{whole_counted}
 use Rattle.ps_execution.proofs.Reached.{answered}
 use Rattle.ps_steps.specs.Executing.{object_turn, met_answer, led}
 use Rattle.ps_steps.specs.Operators.{IsFailed, CountsTurn}
-use Rattle.ps_steps.specs.Reading.{IsReady}
+use Rattle.ps_reader.specs.Reading.{IsReady}
 
 pub some_left : (s : State) → s.turns < turn_budget s.kind → CountsTurn true s (counted s)
 some_left s h = (turn_budget s.kind - suc s.turns, omega (arith, h), refl)

@@ -4,6 +4,5 @@ pub mod Met
 pub mod Next
 pub mod Operators
 pub mod Procedures
-pub mod Reading
 pub mod Texts
 pub mod Walks

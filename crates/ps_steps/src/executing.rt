@@ -10,7 +10,7 @@ ghost use Rattle.ps_steps.specs.Executing.{operator_in, string_in, procedure_in,
 ghost use Rattle.ps_steps.specs.Met.{object_of};
 ghost use Rattle.ps_steps.specs.Next.{program, Comes};
 ghost use Rattle.ps_steps.specs.Operators.{FitsHere, Executed};
-ghost use Rattle.ps_steps.specs.Reading.{IsReady};
+ghost use Rattle.ps_reader.specs.Reading.{IsReady};
 
 use crate::met::{Met, bound, found, integer};
 use crate::settling::settle;

@@ -11,12 +11,10 @@ mod procedures;
 mod raising;
 mod reading;
 mod settling;
-mod spelt;
 mod stepping;
 mod turning;
 mod walking;
 
 pub use next::{Next, Outcome};
 pub use operators::Operators;
-pub use spelt::Spelt;
 pub use stepping::step;

@@ -1,22 +1,19 @@
 //! A table of operators.
 
-use crate::Spelt;
 use ps_kinds::{Act, NoMemory, Op, ShowRun, State};
-use std::alloc::Global;
 use vm_mem::Mem;
 
 /// What a table of operators does, in code.
 ///
 /// A refusal is told as `Act::Fail`, and changes nothing but what was looked at.
 pub trait Operators<M: Mem> {
-    ghost use Rattle.std.specs.Prelude.{◌≡◌, ◌≤◌, length, true, IfOk};
+    ghost use Rattle.std.specs.Prelude.{◌≡◌, true};
     ghost use Rattle.ps_execution.specs.Lawful.{LawfulTable};
     ghost use Rattle.ps_execution.specs.Table.{Table};
     ghost use Rattle.ps_meaning.specs.Ready.{ReadyIn};
     ghost use Rattle.ps_operator.specs.Owes.{Runs, RunsStep};
     ghost use Rattle.vm_mem.specs.Conditions.{page_is_here};
     ghost use Rattle.ps_steps.specs.Operators.{Leaves, takes_step, step_of};
-    ghost use Rattle.ps_steps.specs.Reading.{IsReady, spelt_of, Reads};
 
     /// What each operator, each step and each leaving of a show does.
     ghost table: { Table };
@@ -39,20 +36,6 @@ pub trait Operators<M: Mem> {
         requires { page_is_here (M.log mem.old).view ≡ true }
         ensures { Leaves (table.leave run.now) state.old (M.log mem.old)
             result state.new (M.log mem.new) };
-
-    /// Reads the object that a text spells at a place.
-    fn read(
-        alloc: Global,
-        bytes: &[u8],
-        place: u64,
-        text: &[u8],
-        state: &mut State,
-        mem: &mut M,
-    ) -> Result<(Spelt, u64), NoMemory>
-        requires ready { IsReady 0 text.now state.old (M.log mem.old).view }
-        requires place { place ≤ length bytes.now }
-        ensures { IfOk result (λ r. Reads bytes.now place state.old (M.log mem.old)
-            (record { spelt = spelt_of r.0; place = r.1; state = state.new }) (M.log mem.new)) };
 
     ghost lawful: { LawfulTable table };
 }

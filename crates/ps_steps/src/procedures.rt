@@ -4,7 +4,7 @@ ghost use Rattle.ps_kinds.specs.declared.frame.Frame.TheVariants as frame;
 ghost use Rattle.ps_execution.specs.Execution.{on};
 ghost use Rattle.ps_execution.specs.Machine.{move_item, move_procedure};
 ghost use Rattle.ps_steps.specs.Next.{program, Makes};
-ghost use Rattle.ps_steps.specs.Reading.{IsReady};
+ghost use Rattle.ps_reader.specs.Reading.{IsReady};
 ghost use Rattle.ps_steps.specs.Procedures.{interval_of};
 
 use crate::met::{Met, item};

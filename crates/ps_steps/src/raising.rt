@@ -9,7 +9,7 @@ ghost use Rattle.ps_execution.specs.Machine.{move_raise};
 ghost use Rattle.ps_execution.specs.Objects as spec;
 ghost use Rattle.ps_steps.specs.Next.{program, Makes};
 ghost use Rattle.ps_steps.specs.Operators.{FitsHere};
-ghost use Rattle.ps_steps.specs.Reading.{IsReady};
+ghost use Rattle.ps_reader.specs.Reading.{IsReady};
 
 use crate::executing::run_value;
 use crate::settling::settle;

@@ -4,18 +4,19 @@ ghost use Rattle.ps_kinds.specs.declared.frame.Frame.TheVariants as frame;
 ghost use Rattle.ps_meaning.specs.Start.{literal};
 ghost use Rattle.ps_execution.specs.Execution.{on};
 ghost use Rattle.ps_steps.specs.Next.{program, Makes};
-ghost use Rattle.ps_steps.specs.Reading.{IsReady, spelt_of, Reads};
+ghost use Rattle.ps_reader.specs.Reading.{IsReady, spelt_of, Reads};
 ghost use Rattle.ps_steps.specs.Texts.{string_move, section_move};
 
 use crate::met::Met;
 use crate::turning::turn;
-use crate::{Next, Operators, Outcome, Spelt};
+use crate::{Next, Operators, Outcome};
 use ps_kinds::{Access, Frame, Kind, NoMemory, Object, State, Text};
+use ps_reader::{Spelt, read};
 use std::alloc::Global;
 use vm_mem::Mem;
 
 /// Reads the object that a string spells at a place.
-fn read_string<M: Mem, T: Operators<M>>(
+fn read_string<M: Mem>(
     alloc: Global,
     bytes: &Text,
     place: u64,
@@ -28,8 +29,8 @@ fn read_string<M: Mem, T: Operators<M>>(
     ensures { IfOk result (λ r. Reads bytes.now place state.old (M.log mem.old)
         (record { spelt = spelt_of r.0; place = r.1; state = state.new }) (M.log mem.new)) }
 {
-    let read = T::read(alloc, bytes.as_slice(), place, text, state, mem)?;
-    Ok(read)
+    let spelt = read(alloc, bytes.as_slice(), place, text, state, mem)?;
+    Ok(spelt)
 }
 
 /// What a string spells, whose frame was taken off.
@@ -48,7 +49,7 @@ pub(crate) fn string_step<M: Mem, T: Operators<M>>(
     ensures { Makes (string_move (program T.table text.now) string bytes place state.old)
         (M.log mem.old) result state.new (M.log mem.new) }
 {
-    let (spelt, place) = read_string::<M, T>(alloc, &bytes, place, text, state, mem)?;
+    let (spelt, place) = read_string(alloc, &bytes, place, text, state, mem)?;
     match spelt {
         Spelt::Nothing => Ok(Next::Goes),
         Spelt::Bad { error } => {
@@ -94,7 +95,7 @@ pub(crate) fn section_step<M: Mem, T: Operators<M>>(
     ensures { Makes (section_move (program T.table text.now) state.old) (M.log mem.old)
         result state.new (M.log mem.new) }
 {
-    let (spelt, place) = T::read(alloc, text, state.place, text, state, mem)?;
+    let (spelt, place) = read(alloc, text, state.place, text, state, mem)?;
     state.place = place;
     match spelt {
         Spelt::Nothing => {

@@ -4,7 +4,7 @@ ghost use Rattle.ps_execution.specs.Execution.{on};
 ghost use Rattle.ps_execution.specs.Lawful.{takes_steps, SoundAt};
 ghost use Rattle.ps_execution.specs.Machine as spec;
 ghost use Rattle.ps_steps.specs.Next.{program, move_of, is_step, Makes};
-ghost use Rattle.ps_steps.specs.Reading.{IsReady};
+ghost use Rattle.ps_reader.specs.Reading.{IsReady};
 
 use crate::frames::{begun_by, costs};
 use crate::procedures::procedure_step;

@@ -5,7 +5,7 @@ ghost use Rattle.ps_steps.specs.Executing.{object_turn};
 ghost use Rattle.ps_steps.specs.Met.{object_of};
 ghost use Rattle.ps_steps.specs.Next.{program, Makes};
 ghost use Rattle.ps_steps.specs.Operators.{FitsHere, CountsTurn};
-ghost use Rattle.ps_steps.specs.Reading.{IsReady};
+ghost use Rattle.ps_reader.specs.Reading.{IsReady};
 
 use crate::executing::execute;
 use crate::met::Met;

@@ -2,7 +2,7 @@
 ghost use Rattle.std.specs.Prelude.{◌≡◌, true, false};
 ghost use Rattle.ps_steps.specs.Next.{program, Makes};
 ghost use Rattle.ps_steps.specs.Operators.{takes_step};
-ghost use Rattle.ps_steps.specs.Reading.{IsReady};
+ghost use Rattle.ps_reader.specs.Reading.{IsReady};
 ghost use Rattle.ps_steps.specs.Walks.{walk_of, costs_next, begun_next, given_back};
 
 use crate::settling::settle;
