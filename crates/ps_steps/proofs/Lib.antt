@@ -1,0 +1,12 @@
+pub mod Logs
+pub mod Throws
+pub mod Turns
+pub mod Raises
+pub mod Walks
+pub mod Texts
+pub mod Bodies
+pub mod Moves
+pub mod Executes
+pub mod Glances
+pub mod Led
+pub mod Searches
