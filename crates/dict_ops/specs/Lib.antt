@@ -1,0 +1,5 @@
+pub mod Entries
+pub mod Stack
+pub mod Pairs
+pub mod Copies
+pub mod Operators
