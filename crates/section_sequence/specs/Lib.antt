@@ -1,0 +1,3 @@
+pub mod SectionText
+pub mod Sequence
+pub mod Between
