@@ -1,0 +1,5 @@
+pub mod SectionText
+pub mod Sequence
+pub mod Between
+pub mod Counting
+pub mod Counted
