@@ -1,5 +1,3 @@
 pub mod SectionText
 pub mod Sequence
 pub mod Between
-pub mod Counting
-pub mod Counted

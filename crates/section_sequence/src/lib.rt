@@ -3,8 +3,6 @@
 
 ghost use Rattle.section_sequence.specs.Between.{StartsLaw, BeginsLaw, EndsLaw, InOrderLaw, SequenceLaw, JobLaw};
 
-mod page_counter;
-
 /// Before each section of a job, registers and memory are such that it may run: at the start, and after each section, however it
 /// has ended.
 pub fn sequence_law()
