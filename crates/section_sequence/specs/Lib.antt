@@ -3,3 +3,5 @@ pub mod Sequence
 pub mod Between
 pub mod Counting
 pub mod Counted
+pub mod Machines
+pub mod Running

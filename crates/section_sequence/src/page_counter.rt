@@ -20,6 +20,12 @@ impl<'a, O> PageCounter<'a, O> {
     {
         PageCounter { out, shown: 0 }
     }
+
+    pub(crate) fn shown(&self) -> u64
+        ensures { result ≡ self.now.shown }
+    {
+        self.shown
+    }
 }
 
 impl<O: Outlet> Outlet for PageCounter<'_, O> {
