@@ -1,3 +1,5 @@
 pub mod Reports
 pub mod Sections
 pub mod Numbers
+pub mod Standing
+mod Examples

@@ -22,7 +22,7 @@ in_order_law job = in_order 1 (sections_of job) (numbered job)
 
 module _ (J : Job) (T : LawfulTable J.table) where
   -- a section more, whose number is n or greater
-  one_more : (n : ℕ) (e : End) (x : Section) (p : Progress) → 1 ≤ n → n ≤ x.number → MayRun n p.regs p.memory
+  pub one_more : (n : ℕ) (e : End) (x : Section) (p : Progress) → 1 ≤ n → n ≤ x.number → MayRun n p.regs p.memory
       → let q = after_end e (section_run J x p.regs) p in MayRun (suc x.number) q.regs q.memory
   one_more n Through x p l g m =
       ends_law (record { table = J.table; text = text_of J.bytes x }) T J.settings J.moment x.number x.kind p.regs p.memory (omega (arith, l, g)) (later_may x.number n p.regs p.memory g m)
@@ -30,7 +30,7 @@ module _ (J : Job) (T : LawfulTable J.table) where
   one_more n Quitted x p l g m = later_may (suc x.number) n p.regs p.memory (omega (arith, g)) m
   one_more n OutOfTurns x p l g m = later_may (suc x.number) n p.regs p.memory (omega (arith, g)) m
 
-  may_run : (n : ℕ) (before later : List Section) (x : Section) (p : Progress) → 1 ≤ n → AreInOrder n (before ++ x ∷ later) → MayRun n p.regs p.memory
+  pub may_run : (n : ℕ) (before later : List Section) (x : Section) (p : Progress) → 1 ≤ n → AreInOrder n (before ++ x ∷ later) → MayRun n p.regs p.memory
       → let q = sequence_from J before p in (1 ≤ x.number) × MayRun x.number q.regs q.memory
   may_run n [] later x p l o m = (omega (arith, l, o.0), later_may x.number n p.regs p.memory o.0 m)
   may_run n (y ∷ ys) later x p l o m = may_run (suc y.number) ys later x (after_end p.end (section_run J y p.regs) p) (omega arith) o.1 (one_more n p.end y p l o.0 m)

@@ -27,9 +27,17 @@ pub record Progress : Type 0 where
   pub text : List ℕ
   pub end : End
 
+-- registers and memory after such an end, with nothing written since
+abbrev pub stood : Regs → Memory → End → Progress
+stood R M e = record { regs = R; memory = M; papers = []; text = []; end = e }
+
 -- before any section, from these registers and this memory
 abbrev pub begun : Regs → Memory → Progress
-begun R M = record { regs = R; memory = M; papers = []; text = []; end = Through }
+begun R M = stood R M Through
+
+-- a job's bytes, and what they are interpreted with
+abbrev pub job_of : Table → Settings → ℕ → List ℕ → Job
+job_of T settings moment bytes = record { table = T; settings = settings; moment = moment; bytes = bytes }
 
 -- a section's run, from these registers
 abbrev pub section_run : Job → Section → Regs → Tree SectionResult

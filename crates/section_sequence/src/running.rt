@@ -1,0 +1,107 @@
+//! The run of some sections of a job.
+ghost use Rattle.std.specs.Prelude.{◌≡◌, ◌≤◌, ◌+◌, length, IfOk, OnErr};
+ghost use Rattle.ps_execution.specs.Section.{End};
+ghost use Rattle.dsc_split.specs.Law.{StandsWithin};
+ghost use Rattle.out_writers.specs.Faults.{HasRisen};
+ghost use Rattle.section_sequence.specs.Between.{MayRun};
+ghost use Rattle.section_sequence.specs.Running.{CutOff, Finishes, GoesOn, MayRunAll, one_more, sections_from};
+ghost use Rattle.section_sequence.specs.Sequence.{job_of};
+ghost use Rattle.section_sequence.specs.Machines.{IsFault, end_in};
+
+use crate::machine::{Ran, RunRefusal, SectionEnd, SectionMachine};
+use crate::page_counter::PageCounter;
+use dsc_split::Section;
+use out_writers::Outlet;
+use ps_kinds::{Regs, Settings};
+use std::alloc::Global;
+use vm_mem::Base;
+
+/// What sections have left: the registers, how the last that ran has ended, and how many pages they have shown.
+#[derive(Drop)]
+pub struct Finished {
+    pub regs: Regs,
+    pub end: SectionEnd,
+    pub shown: u64,
+}
+
+/// Runs a section, unless the job has ended before it.
+fn go_on<M: Base, O: Outlet, T: SectionMachine<M>>(
+    alloc: Global,
+    settings: &Settings,
+    moment: u64,
+    job: &[u8],
+    section: &Section,
+    ran: Ran,
+    mem: &mut M,
+    out: &mut O,
+) -> Result<Ran, RunRefusal>
+    requires within { section.now.from + section.now.len ≤ length job.now }
+    requires positive { 1 ≤ section.now.number }
+    requires may_run { MayRun section.now.number ran.regs (M.log mem.old).view }
+    ensures counted { O.faults out.old ≤ O.faults out.new }
+    ensures failed { IsFault result → HasRisen (O.faults out.old) (O.faults out.new) }
+    ensures runs { (e : End) → ran.end ≡ end_in e → GoesOn O.since O.cut
+        (one_more (job_of T.table settings.now moment job.now) section.now ran.regs (M.log mem.old).view e)
+        result (M.log mem.new).view out.new out.old }
+{
+    if ran.end != SectionEnd::Through {
+        return Ok(ran);
+    }
+    T::run_section(
+        alloc,
+        settings,
+        moment,
+        section.number,
+        section.kind,
+        section.text(job),
+        ran.regs,
+        mem,
+        out,
+    )
+}
+
+/// Runs sections of a job in sequence, from these registers and on this memory.
+pub fn run_sections<M: Base, O: Outlet, T: SectionMachine<M>>(
+    alloc: Global,
+    settings: &Settings,
+    moment: u64,
+    job: &[u8],
+    sections: &[Section],
+    regs: Regs,
+    mem: &mut M,
+    out: &mut O,
+) -> Result<Finished, RunRefusal>
+    requires within { StandsWithin job.now sections.now }
+    requires may_run { MayRunAll sections.now regs (M.log mem.old).view }
+    ensures counted { O.faults out.old ≤ O.faults out.new }
+    ensures failed { IsFault result → HasRisen (O.faults out.old) (O.faults out.new) }
+    ensures runs { IfOk result (λ done. Finishes O.since
+        (sections_from T.table settings.now moment job.now sections.now regs (M.log mem.old).view)
+        done (M.log mem.new).view out.new out.old) }
+    ensures cut { OnErr result (CutOff O.cut
+        (sections_from T.table settings.now moment job.now sections.now regs (M.log mem.old).view)
+        out.new out.old) }
+{
+    let mut counter = PageCounter::new(out);
+    let mut ran = Ran {
+        regs,
+        end: SectionEnd::Through,
+    };
+    for section in sections {
+        ran = go_on::<M, PageCounter<'_, O>, T>(
+            alloc,
+            settings,
+            moment,
+            job,
+            section,
+            ran,
+            mem,
+            &mut counter,
+        )?;
+    }
+    Ok(Finished {
+        regs: ran.regs,
+        end: ran.end,
+        shown: counter.shown(),
+    })
+}
