@@ -41,7 +41,8 @@ fn go_on<M: Base, O: Outlet, T: SectionMachine<M>>(
     ensures counted { O.faults out.old ≤ O.faults out.new }
     ensures failed { IsFault result → HasRisen (O.faults out.old) (O.faults out.new) }
     ensures runs { (e : End) → ran.end ≡ end_in e → GoesOn O.since O.cut
-        (one_more (job_of T.table settings.now moment job.now) section.now ran.regs (M.log mem.old).view e)
+        (one_more (job_of T.table settings.now moment job.now) section.now
+        ran.regs (M.log mem.old).view e)
         result (M.log mem.new).view out.new out.old }
 {
     if ran.end != SectionEnd::Through {
