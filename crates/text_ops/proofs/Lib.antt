@@ -1,0 +1,5 @@
+pub mod Places
+pub mod Ends
+pub mod Bases
+pub mod Bytes
+pub mod Keeping

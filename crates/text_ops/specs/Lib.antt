@@ -1,0 +1,7 @@
+pub mod Parts
+pub mod Plain
+pub mod Strings
+pub mod Messages
+pub mod Numbers
+pub mod Conversions
+pub mod Operators
