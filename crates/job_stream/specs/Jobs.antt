@@ -1,10 +1,8 @@
 -- The jobs of a stream.
 use Rattle.std.specs.Prelude.{ℕ, Bool, not, ◌||◌, ◌==◌, List, filter}
 use Rattle.std.specs.List.{list_all, slice_split}
-
 -- Control-D parts jobs.
-abbrev pub is_control_d : ℕ → Bool
-is_control_d byte = byte == 4
+pub use Rattle.dsc_split.specs.Sections.{is_control_d}
 
 -- NUL, TAB, LF, FF, CR and SPACE
 abbrev pub is_white : ℕ → Bool

@@ -5,12 +5,10 @@ ghost use Rattle.memchr.specs.Find.{is_byte};
 ghost use Rattle.job_stream.specs.Jobs.{is_white, is_blank, is_control_d};
 
 use copy_lists::{NoMemory, Text};
+use dsc_split::CONTROL_D;
 use memchr::memchr;
 use std::alloc::Global;
 use std::mem;
-
-/// The byte that parts jobs.
-pub const CONTROL_D: u8 = 4;
 
 /// The bytes of a job, at most.
 pub const JOB_LIMIT: usize = 268_435_456;
@@ -113,7 +111,8 @@ impl JobReader {
 
     /// Puts bytes behind the piece.
     fn append(&mut self, bytes: &[u8]) -> Result<(), NoMemory>
-        ensures ok { OnOk result (list_any is_control_d bytes.now ≡ false → Grows self.old self.new bytes.now) }
+        ensures ok { OnOk result (list_any is_control_d bytes.now ≡ false
+            → Grows self.old self.new bytes.now) }
         ensures err { OnErr result (self.new ≡ self.old) }
     {
         if let Some(text) = &mut self.text {
