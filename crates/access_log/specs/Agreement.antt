@@ -1,5 +1,5 @@
 -- Whether registers and a memory are as they were when a run began.
-use Rattle.std.specs.Prelude.{◌≡◌, ◌≢◌, ℕ, ◌<◌, List, Option, Some, None, Result, Ok, Err, slice_get}
+use Rattle.std.specs.Prelude.{◌≡◌, ◌≢◌, ℕ, ◌<◌, List, Option, Some, None, Result, Ok, Err, MatchOption, slice_get}
 use Rattle.std.specs.List.{AllByRecursion}
 use Rattle.ps_objects.specs.declared.place.Loc.{Loc}
 use Rattle.ps_objects.specs.declared.place.Value.{Value}
@@ -28,6 +28,10 @@ Disagrees M (Some r) = value_at M r.at ≢ r.value
 pub record IsFirst (M : Memory) (rs : List Read) (n : ℕ) : Type 0 where
   pub before : AgreeBefore M rs n
   pub here : Disagrees M (slice_get rs n)
+
+-- all reads agree, or the first that doesn't is the nth
+abbrev pub AgreeUntil : Memory → List Read → Option ℕ → Type 0
+AgreeUntil M rs n = MatchOption n (AllByRecursion (Agrees M) rs) (IsFirst M rs)
 
 -- the first register that differs, in the order of the fields; or, where none does, the first read that doesn't agree
 abbrev pub DiffersAt : List Read → Regs → Regs → Memory → Place → Type 0

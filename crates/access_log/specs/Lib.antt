@@ -1,3 +1,4 @@
 pub mod Order
 pub mod Reads
+pub mod Index
 pub mod Agreement

@@ -31,6 +31,10 @@ place_in l (r ∷ rs) = cond (same_loc l r.at) (Some 0) (option_map suc (place_i
 abbrev pub TellsPlaces : List Read → List (Loc × ℕ) → Type 0
 TellsPlaces rs es = (l : Loc) → lookup (is_at (loc_cmp l)) es ≡ place_in l rs
 
+-- reads of different places, with the index of where each stands
+abbrev pub AreIndexed : List Read → List (Loc × ℕ) → Type 0
+AreIndexed rs es = TellsPlaces rs es × IsOnce (places rs)
+
 -- the value of a read, if there is one
 abbrev pub value_in : Option Read → Option Value
 value_in None = None

@@ -1,8 +1,7 @@
 //! Whether registers and a memory are as they were when a page began.
-ghost use Rattle.std.specs.Prelude.{◌≡◌, ◌<◌, length, slice_get, Some, IfOk, MatchOption};
-ghost use Rattle.std.specs.List.{AllByRecursion};
+ghost use Rattle.std.specs.Prelude.{◌≡◌, ◌<◌, length, slice_get, Some, IfOk};
 ghost use Rattle.ps_memory.specs.Memory.{value_at};
-ghost use Rattle.access_log.specs.Agreement.{Agrees, IsFirst, Compares, Shows, IsPlace};
+ghost use Rattle.access_log.specs.Agreement.{AgreeUntil, Compares, Shows, IsPlace};
 
 use crate::{Read, ReadLog};
 use ps_kinds::{RegField, Regs};
@@ -67,7 +66,7 @@ impl ReadLog {
 /// The first read that doesn't agree with a memory.
 #[tactic(auto, using(crate::proofs::Agreeing::all_agree, crate::proofs::Agreeing::one_other))]
 fn first_other<B: Base>(reads: &[Read], mem: &B) -> Option<usize>
-    ensures { MatchOption result (AllByRecursion (Agrees (B.log mem.now).view) reads.now) (IsFirst (B.log mem.now).view reads.now) }
+    ensures { AgreeUntil (B.log mem.now).view reads.now result }
 {
     for place in 0..reads.len() {
         let read = &reads[place];

@@ -1,11 +1,9 @@
 //! The places that a page looked at, with their values.
-ghost use Rattle.std.specs.Prelude.{◌≡◌, ◌<◌, ◌++◌, ◌∷◌, [], cond, false, length, slice_get, option_copied, Some, IfOk, OnOk, OnErr};
-ghost use Rattle.std.specs.Map.{lookup};
-ghost use Rattle.std.specs.BTreeMap.{is_at};
+ghost use Rattle.std.specs.Prelude.{◌≡◌, ◌<◌, ◌++◌, ◌∷◌, [], false, length, slice_get, option_copied, Some, IfOk, OnOk, OnErr};
 ghost use Rattle.ps_objects.specs.declared.place.Loc.{Loc};
 ghost use Rattle.ps_memory.specs.Memory.{value_at};
 ghost use Rattle.ps_memory.specs.Ownership.{is_among};
-ghost use Rattle.access_log.specs.Order.{loc_cmp};
+ghost use Rattle.access_log.specs.Index.{TellsAnew};
 ghost use Rattle.access_log.specs.Reads.{places, noted_at, value_in, IsOnce};
 
 use ps_objects::{Loc, NoMemory, Value};
@@ -30,13 +28,13 @@ pub struct ReadLog {
 impl Model for ReadLog {
     ghost use Rattle.std.specs.Prelude.{List};
     ghost use Rattle.access_log.specs.declared.log.Read.{Read};
-    ghost use Rattle.access_log.specs.Reads.{places, IsOnce, TellsPlaces};
+    ghost use Rattle.access_log.specs.Reads.{AreIndexed};
 
     ghost Value = { List Read };
 
     ghost view = { λ log. log.items.items };
 
-    ghost invariant = { λ log. TellsPlaces log.items.items log.index.entries × IsOnce (places log.items.items) };
+    ghost invariant = { λ log. AreIndexed log.items.items log.index.entries };
 }
 
 impl ReadLog {
@@ -108,7 +106,8 @@ fn push_read(
     read: Read,
 ) -> Result<(), NoMemory>
     ensures items { OnOk result (items.new.items ≡ items.old.items ++ read ∷ []) }
-    ensures index { OnOk result ((l : Loc) → lookup (is_at (loc_cmp l)) index.new.entries ≡ cond (is_at (loc_cmp read.at) l) (Some (length items.old.items)) (lookup (is_at (loc_cmp l)) index.old.entries)) }
+    ensures index { OnOk result (TellsAnew read.at (Some (length items.old.items))
+        index.old.entries index.new.entries) }
     ensures same_items { OnErr result (items.new.items ≡ items.old.items) }
     ensures same_index { OnErr result (index.new.entries ≡ index.old.entries) }
 {

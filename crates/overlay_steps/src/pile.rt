@@ -1,5 +1,6 @@
 //! Steps in the order in which they were noted.
-ghost use Rattle.std.specs.Prelude.{◌≡◌, [], ◌∷◌, length, slice_get, option_copied, MatchOption, IfOk, OnOk, OnErr};
+ghost use Rattle.std.specs.Prelude.{◌≡◌, [], ◌∷◌, length, slice_get, option_copied, IfOk, OnOk, OnErr};
+ghost use Rattle.copy_lists.specs.Stacks.{Pops};
 ghost use Rattle.overlay_steps.specs.Pile.{action_of, acts, step_value, with_value_at, put_in, revalued_step};
 ghost use Rattle.overlay_steps.specs.Newest.{value_of, put_value};
 ghost use Rattle.overlay_steps.specs.Steps.{laid};
@@ -75,7 +76,7 @@ impl Pile {
     }
 
     pub fn pop(&mut self) -> Option<Step>
-        ensures { MatchOption result ((self.old ≡ []) × (self.new ≡ [])) (λ x. self.old ≡ x ∷ self.new) }
+        ensures { Pops self.old self.new result }
     {
         self.items.pop()
     }

@@ -1,20 +1,15 @@
 //! The writes of a page, with the newest store at each place.
-ghost use Rattle.std.specs.Prelude.{◌≡◌, [], ◌∷◌, cond, length, Some, None, List, ℕ, ◌+◌, not, option_copied, IfOk, OnOk, OnErr};
-ghost use Rattle.std.specs.Map.{lookup};
-ghost use Rattle.std.specs.BTreeMap.{is_at};
-ghost use Rattle.ps_objects.specs.declared.cell.Cell.{Cell};
-ghost use Rattle.ps_objects.specs.declared.place.Loc.{Loc};
-ghost use Rattle.ps_memory.specs.Order.{cell_cmp};
+ghost use Rattle.std.specs.Prelude.{◌≡◌, [], ◌∷◌, length, Some, None, List, ℕ, not, option_copied, IfOk, OnOk, OnErr};
 ghost use Rattle.ps_memory.specs.Memory.{is_global, spot_of, store, fresh, save};
 ghost use Rattle.ps_memory.specs.Memory.{paper as paper_spot};
 ghost use Rattle.ps_memory.specs.Ownership.{is_kept};
 ghost use Rattle.vm_mem.specs.Writes.{actions};
 ghost use Rattle.overlay_steps.specs.Newest.{newest, newest_value, made, made_at, saved, put_at, put_value, is_anew};
 ghost use Rattle.overlay_steps.specs.declared.pile.Note.TheVariants.{Fresh, Put, Save};
-ghost use Rattle.overlay_steps.specs.Pile.{acts};
-ghost use Rattle.access_log.specs.Order.{loc_cmp};
+ghost use Rattle.overlay_steps.specs.Pile.{acts, step_over};
+ghost use Rattle.access_log.specs.Index.{told_of, TellsAnew};
 ghost use Rattle.overlay_steps.specs.Entries.{entries_put};
-ghost use Rattle.overlay_steps.specs.Steps.{stored_over, paper_put};
+ghost use Rattle.overlay_steps.specs.Steps.{stored_over, paper_put, mark_over, HasAnew};
 
 use crate::pile::{Mark, Note, Pile, Step};
 use ps_objects::{Cell, Loc, NoMemory, Paper, SaveName, Shape, Space, Stack, Value};
@@ -44,7 +39,7 @@ impl Model for Steps {
 
     ghost view = { λ steps. steps.pile };
 
-    ghost invariant = { λ steps. IsSteps steps.pile steps.saves steps.index.entries steps.made.entries };
+    ghost invariant = { λ s. IsSteps s.pile s.saves s.index.entries s.made.entries };
 }
 
 impl Steps {
@@ -218,8 +213,8 @@ fn is_local(cell: Cell) -> bool
 }
 
 fn push_save(pile: &mut Pile, saves: &mut Stack<Mark>, name: SaveName) -> Result<(), NoMemory>
-    ensures pile { OnOk result (pile.new ≡ record { note = Save name; under = None } ∷ pile.old) }
-    ensures saves { OnOk result (saves.new ≡ record { name = name; until = length pile.old + 1 } ∷ saves.old) }
+    ensures pile { OnOk result (pile.new ≡ step_over (Save name) None ∷ pile.old) }
+    ensures saves { OnOk result (saves.new ≡ mark_over name (length pile.old) ∷ saves.old) }
     ensures same_pile { OnErr result (pile.new ≡ pile.old) }
     ensures same_saves { OnErr result (saves.new ≡ saves.old) }
 {
@@ -244,8 +239,8 @@ fn push_fresh(
     cell: Cell,
     shape: Shape,
 ) -> Result<(), NoMemory>
-    ensures pile { OnOk result (pile.new ≡ record { note = Fresh cell shape; under = None } ∷ pile.old) }
-    ensures made { OnOk result ((c : Cell) → lookup (is_at (cell_cmp c)) made.new.entries ≡ cond (is_at (cell_cmp cell) c) (Some shape) (lookup (is_at (cell_cmp c)) made.old.entries)) }
+    ensures pile { OnOk result (pile.new ≡ step_over (Fresh cell shape) None ∷ pile.old) }
+    ensures made { OnOk result (HasAnew cell shape made.old.entries made.new.entries) }
     ensures same_pile { OnErr result (pile.new ≡ pile.old) }
     ensures same_made { OnErr result (made.new.entries ≡ made.old.entries) }
 {
@@ -266,8 +261,10 @@ fn push_store(
     at: &Loc,
     value: Value,
 ) -> Result<(), NoMemory>
-    ensures pile { OnOk result (pile.new ≡ record { note = Put at.now value; under = lookup (is_at (loc_cmp at.now)) index.old.entries } ∷ pile.old) }
-    ensures index { OnOk result ((l : Loc) → lookup (is_at (loc_cmp l)) index.new.entries ≡ cond (is_at (loc_cmp at.now) l) (Some (length pile.old)) (lookup (is_at (loc_cmp l)) index.old.entries)) }
+    ensures pile { OnOk result (pile.new
+        ≡ step_over (Put at.now value) (told_of at.now index.old.entries) ∷ pile.old) }
+    ensures index { OnOk result (TellsAnew at.now (Some (length pile.old))
+        index.old.entries index.new.entries) }
     ensures same_pile { OnErr result (pile.new ≡ pile.old) }
     ensures same_index { OnErr result (index.new.entries ≡ index.old.entries) }
 {

@@ -1,17 +1,12 @@
 //! Writes that are taken back.
-ghost use Rattle.std.specs.Prelude.{◌≡◌, [], ◌∷◌, cond, Bool, MatchOption, IsSome, OnOk, OnErr};
-ghost use Rattle.std.specs.Map.{lookup};
-ghost use Rattle.std.specs.BTreeMap.{is_at};
-ghost use Rattle.ps_objects.specs.declared.cell.Cell.{Cell};
-ghost use Rattle.ps_objects.specs.declared.place.Loc.{Loc};
-ghost use Rattle.ps_memory.specs.Order.{cell_cmp};
+ghost use Rattle.std.specs.Prelude.{◌≡◌, [], ◌∷◌, Bool, IsSome, OnOk, OnErr};
 ghost use Rattle.ps_memory.specs.Memory.{is_global, spot_of};
 ghost use Rattle.ps_memory.specs.Ownership.{outlives};
 ghost use Rattle.ps_memory.specs.Writes.{survives, writes_left, is_open};
-ghost use Rattle.access_log.specs.Order.{loc_cmp};
+ghost use Rattle.access_log.specs.Index.{told_of, TellsAnew};
 ghost use Rattle.overlay_steps.specs.Newest.{MadeOnce};
-ghost use Rattle.overlay_steps.specs.Pile.{action_of, acts};
-ghost use Rattle.overlay_steps.specs.Steps.{saves_less, index_less, made_less, IsThere, is_marked, opens, laid};
+ghost use Rattle.overlay_steps.specs.Pile.{action_of, acts, TakesNewest};
+ghost use Rattle.overlay_steps.specs.Steps.{saves_less, TellsLess, HasLess, IsThere, is_marked, opens, laid};
 
 use crate::Steps;
 use crate::pile::{Mark, Note, Step};
@@ -56,7 +51,8 @@ impl Steps {
     #[tactic(auto, using(crate::proofs::Undoing::left_opened, crate::proofs::Undoing::left_kept, crate::proofs::Undoing::left_lost, crate::proofs::Undoing::left_none, crate::proofs::Undoing::once_less, crate::proofs::Undoing::fewer))]
     fn take_back(&mut self, name: SaveName, kept: &mut Stack<Note>) -> Result<(), NoMemory>
         requires { MadeOnce (acts self.old) }
-        ensures { OnOk result (laid kept.new (acts self.new) ≡ laid kept.old (writes_left name (acts self.old))) }
+        ensures { OnOk result (laid kept.new (acts self.new)
+            ≡ laid kept.old (writes_left name (acts self.old))) }
     {
         while let Some(note) = self.pop() {
             if opens(&note, name) {
@@ -103,7 +99,7 @@ impl Steps {
     /// Takes the newest write away.
     pub fn pop(&mut self) -> Option<Note>
         requires { MadeOnce (acts self.old) }
-        ensures { MatchOption result ((acts self.old ≡ []) × (acts self.new ≡ [])) (λ x. acts self.old ≡ action_of x ∷ acts self.new) }
+        ensures { TakesNewest (acts self.old) (acts self.new) result }
     {
         match self.pile.pop() {
             None => None,
@@ -179,8 +175,8 @@ fn forget(
 )
     requires { IsThere step.now.note index.old.entries }
     ensures saves { saves.new ≡ saves_less step.now.note saves.old }
-    ensures index { (l : Loc) → lookup (is_at (loc_cmp l)) index.new.entries ≡ index_less step.now.note step.now.under l (lookup (is_at (loc_cmp l)) index.old.entries) }
-    ensures made { (c : Cell) → lookup (is_at (cell_cmp c)) made.new.entries ≡ made_less step.now.note c (lookup (is_at (cell_cmp c)) made.old.entries) }
+    ensures index { TellsLess step.now index.old.entries index.new.entries }
+    ensures made { HasLess step.now.note made.old.entries made.new.entries }
 {
     match &step.note {
         Note::Fresh { cell, .. } => {
@@ -195,8 +191,8 @@ fn forget(
 
 /// Puts the index of a place, where it has one, back to an older store or to none.
 fn unindex(index: &mut BTreeMap<Loc, usize>, at: &Loc, under: Option<usize>)
-    requires { IsSome (lookup (is_at (loc_cmp at.now)) index.old.entries) }
-    ensures { (l : Loc) → lookup (is_at (loc_cmp l)) index.new.entries ≡ cond (is_at (loc_cmp at.now) l) under (lookup (is_at (loc_cmp l)) index.old.entries) }
+    requires { IsSome (told_of at.now index.old.entries) }
+    ensures { TellsAnew at.now under index.old.entries index.new.entries }
 {
     match under {
         Some(under) => {
