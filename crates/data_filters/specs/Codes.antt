@@ -1,5 +1,5 @@
 -- The codes of each filter.
-use Rattle.std.specs.Prelude.{ℕ, zero, suc, ◌+◌, ◌-◌, ◌*◌, ◌/◌, ◌%◌, ◌^◌, Bool, true, false, not, ◌&&◌, ◌||◌, ◌==◌, nat_lt, nat_le, List, [], ◌∷◌, length, take, replicate, Option, Some, None, if◌then◌else◌}
+use Rattle.std.specs.Prelude.{◌≡◌, ℕ, zero, suc, ◌+◌, ◌-◌, ◌*◌, ◌/◌, ◌%◌, ◌^◌, Bool, true, false, not, ◌&&◌, ◌||◌, ◌==◌, nat_lt, nat_le, List, [], ◌∷◌, length, take, replicate, Option, Some, None, if◌then◌else◌}
 use Rattle.std.specs.Char.{digit_value}
 use Rattle.filter_tower.specs.declared.tower.FilterKind.{FilterKind}
 use Rattle.filter_tower.specs.declared.tower.FilterKind.TheVariants.{Hex, Base85, RunLength, SubFile}
@@ -11,6 +11,10 @@ use Rattle.data_filters.specs.Rests.{Rest, byte, ended, broken, size, reach}
 abbrev pub is_white : ℕ → Bool
 is_white b = b == 0 || b == 9 || b == 10 || b == 12 || b == 13 || b == 32
 
+-- no hexadecimal digit
+abbrev pub IsNoDigit : ℕ → Type 0
+IsNoDigit b = nat_lt (digit_value b) 16 ≡ false
+
 -- White space in front of a hexadecimal or base-85 code and in it is passed over.
 abbrev pub passes : FilterKind → ℕ → Bool
 passes Hex b = is_white b
@@ -18,6 +22,7 @@ passes Base85 b = is_white b
 passes RunLength b = false
 passes (SubFile count mark) b = false
 
+-- what comes behind white space
 abbrev pub past_white : Rest → Rest
 past_white (byte b rest) = if is_white b then past_white rest else byte b rest
 past_white ended = ended
@@ -78,11 +83,16 @@ character missing value later (byte b rest) =
 character missing value later ended = cut_group missing value EndsWithSource
 character missing value later broken = Wrong
 
+-- a group's value: its four bytes, where it is below 2^32
+abbrev pub word_code : ℕ → Code
+word_code value = if nat_lt value (2 ^ 32) then Gives (word_of value) 5 else Wrong
+
 -- Five characters give four bytes; so many are missing, and the others have this value. A value of 2^32 or more is wrong.
 abbrev pub group : ℕ → ℕ → Rest → Code
-group zero value rest = if nat_lt value (2 ^ 32) then Gives (word_of value) 5 else Wrong
+group zero value rest = word_code value
 group (suc missing) value rest = character (suc missing) value (group missing) (past_white rest)
 
+-- a byte in front of those that were found, if they were
 abbrev pub in_front : ℕ → Option (List ℕ) → Option (List ℕ)
 in_front b None = None
 in_front b (Some bytes) = Some (b ∷ bytes)
@@ -94,6 +104,7 @@ front (suc n) (byte b rest) = in_front b (front n rest)
 front (suc n) ended = Some []
 front (suc n) broken = None
 
+-- the code of bytes that are given as they stand, if they are there: it ends where there are none
 abbrev pub literal_of : Option (List ℕ) → Code
 literal_of None = Wrong
 literal_of (Some []) = Ends 1
@@ -122,6 +133,7 @@ one (byte b rest) = Gives (b ∷ []) 1
 one ended = EndsWithSource
 one broken = Wrong
 
+-- these bytes come next
 abbrev pub begins_with : List ℕ → Rest → Bool
 begins_with [] rest = true
 begins_with (m ∷ ms) (byte b rest) = m == b && begins_with ms rest

@@ -33,6 +33,7 @@ pub record Finds (kind : FilterKind) (so_far : ℕ) (old : Rest) (found : Found)
 abbrev pub whole : Code → Found
 whole c = record { code = c; is_cut = false }
 
+-- what was found, where the source came to its end in it
 abbrev pub cut : Code → Found
 cut c = record { code = c; is_cut = true }
 

@@ -26,6 +26,7 @@ source_within zero layers n = the_text
 source_within (suc steps) layers zero = the_text
 source_within (suc steps) layers (suc k) = over k (kind_at layers k) (source_within steps layers (below_at layers k))
 
+-- the source with this number: the text is 0, and the layer at a place has the next number
 unfoldable pub source_of : List FilterLayer → ℕ → Source
 source_of layers n = source_within n layers n
 
@@ -37,6 +38,7 @@ source_below layers k = source_of layers (below_at layers k)
 abbrev pub at_end : Standing
 at_end = empty_standing Ended
 
+-- a layer whose source is wrong
 abbrev pub at_fault : Standing
 at_fault = empty_standing Failed
 
@@ -44,9 +46,11 @@ at_fault = empty_standing Failed
 abbrev pub pending : Standing → List ℕ
 pending standing = drop standing.from standing.code
 
+-- where the layer at a place stands
 abbrev pub standing_at : Reading → ℕ → Standing
 standing_at reading k = slice_index_or reading.standings k at_end
 
+-- the same with another standing of the layer at a place
 abbrev pub put : ℕ → Standing → Reading → Reading
 put k standing reading = record reading { standings = slice_set reading.standings k standing }
 
@@ -54,6 +58,7 @@ put k standing reading = record reading { standings = slice_set reading.standing
 abbrev pub behind_code : FilterKind → Standing → Rest → Rest
 behind_code kind standing source = elim standing.state [ Open ↦ decoded kind standing.given 0 source | Ended ↦ ended | Failed ↦ broken ]
 
+-- what a layer would still give, with the bytes of its newest code
 abbrev pub still : FilterKind → Standing → Rest → Rest
 still kind standing source = onto (pending standing) (behind_code kind standing source)
 
@@ -62,6 +67,7 @@ unfoldable pub rest : List ℕ → Source → Reading → Rest
 rest text the_text reading = rest_of (drop reading.place text)
 rest text (over k kind below) reading = still kind (standing_at reading k) (rest text below reading)
 
+-- one call for the next byte: what it gives, and where all stand then
 abbrev pub Call : Type 0
 Call = Reading → Given × Reading
 
@@ -91,6 +97,7 @@ is_open Open = true
 is_open Ended = false
 is_open Failed = false
 
+-- a layer that goes on, and has given all bytes of its newest code
 abbrev pub is_spent : Standing → Bool
 is_spent standing = is_open standing.state && nat_le (length standing.code) standing.from
 
@@ -130,6 +137,7 @@ gives_by [] Open text k kind below call reading =
 gives_by [] Ended text k kind below call reading = (End, reading)
 gives_by [] Failed text k kind below call reading = (Bad, reading)
 
+-- what a layer gives
 abbrev pub layer_gives : List ℕ → ℕ → FilterKind → Source → Call → Call
 layer_gives text k kind below call reading =
     gives_by (pending (standing_at reading k)) (standing_at reading k).state text k kind below call reading

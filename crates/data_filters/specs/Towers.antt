@@ -17,6 +17,7 @@ pub record IsAdded (old new : Tower) (below : ℕ) (kind : FilterKind) : Type 0 
   pub layers : new.layers ≡ old.layers ++ record { below = below; kind = kind } ∷ []
   pub standings : new.standings ≡ old.standings ++ empty_standing Open ∷ []
 
+-- a layer in this state has come to its end
 abbrev pub is_end : FilterState → Bool
 is_end Open = false
 is_end Ended = true

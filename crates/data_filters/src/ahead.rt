@@ -62,8 +62,8 @@ pub(crate) fn next_code(
     requires stands { source ≤ length layers.now }
     requires room { length layers.now ≤ length ahead.old.standings }
     requires marks { needs_text kind.now ≡ true → source ≡ 0 }
-    ensures found { Finds kind.now given (rest text.now (source_of layers.now source) ahead.old) result
-        (rest text.now (source_of layers.now source) ahead.new) }
+    ensures found { Finds kind.now given (rest text.now (source_of layers.now source) ahead.old)
+        result (rest text.now (source_of layers.now source) ahead.new) }
     ensures same { length ahead.new.standings ≡ length ahead.old.standings }
 {
     match kind {
@@ -85,8 +85,8 @@ fn unpassed(text: &[u8], layers: &[FilterLayer], ahead: &mut Reading, source: us
     requires tower { IsTower layers.now }
     requires stands { source ≤ length layers.now }
     requires room { length layers.now ≤ length ahead.old.standings }
-    ensures yields { Yields (past_white (rest text.now (source_of layers.now source) ahead.old)) result
-        (rest text.now (source_of layers.now source) ahead.new) }
+    ensures yields { Yields (past_white (rest text.now (source_of layers.now source) ahead.old))
+        result (rest text.now (source_of layers.now source) ahead.new) }
     ensures same { length ahead.new.standings ≡ length ahead.old.standings }
 {
     'white: loop {
@@ -108,8 +108,9 @@ fn hex_code(text: &[u8], layers: &[FilterLayer], ahead: &mut Reading, source: us
     requires tower { IsTower layers.now }
     requires stands { source ≤ length layers.now }
     requires room { length layers.now ≤ length ahead.old.standings }
-    ensures found { (so_far : ℕ) → Finds kind.Hex so_far (rest text.now (source_of layers.now source) ahead.old)
-        result (rest text.now (source_of layers.now source) ahead.new) }
+    ensures found { (so_far : ℕ) → Finds kind.Hex so_far
+        (rest text.now (source_of layers.now source) ahead.old) result
+        (rest text.now (source_of layers.now source) ahead.new) }
     ensures same { length ahead.new.standings ≡ length ahead.old.standings }
 {
     let first = match unpassed(text, layers, ahead, source) {
@@ -129,8 +130,9 @@ fn group_code(text: &[u8], layers: &[FilterLayer], ahead: &mut Reading, source: 
     requires tower { IsTower layers.now }
     requires stands { source ≤ length layers.now }
     requires room { length layers.now ≤ length ahead.old.standings }
-    ensures found { (so_far : ℕ) → Finds kind.Base85 so_far (rest text.now (source_of layers.now source) ahead.old)
-        result (rest text.now (source_of layers.now source) ahead.new) }
+    ensures found { (so_far : ℕ) → Finds kind.Base85 so_far
+        (rest text.now (source_of layers.now source) ahead.old) result
+        (rest text.now (source_of layers.now source) ahead.new) }
     ensures same { length ahead.new.standings ≡ length ahead.old.standings }
 {
     let mut missing = 5;
@@ -191,8 +193,8 @@ fn literal_code(
     requires stands { source ≤ length layers.now }
     requires room { length layers.now ≤ length ahead.old.standings }
     requires few { count ≤ 128 }
-    ensures found { FindsLiteral count (rest text.now (source_of layers.now source) ahead.old) result
-        (rest text.now (source_of layers.now source) ahead.new) }
+    ensures found { FindsLiteral count (rest text.now (source_of layers.now source) ahead.old)
+        result (rest text.now (source_of layers.now source) ahead.new) }
     ensures same { length ahead.new.standings ≡ length ahead.old.standings }
 {
     let mut bytes = CodeBytes::none();

@@ -46,8 +46,8 @@ pub fn add(tower: &mut Tower, below: u32, kind: FilterKind) -> Result<u32, NoMem
 /// next byte. It takes no memory.
 pub fn next(tower: &mut Tower, layer: u32, text: &[u8], place: &mut u64) -> Given
     requires { layer ≤ length tower.old.layers }
-    ensures gives { give text.now (source_of tower.old.layers layer) (reading_of tower.old place.old)
-        ≡ (result, reading_of tower.new place.new) }
+    ensures gives { give text.now (source_of tower.old.layers layer)
+        (reading_of tower.old place.old) ≡ (result, reading_of tower.new place.new) }
     ensures layers { tower.new.layers ≡ tower.old.layers }
 {
     let alloc = tower.alloc;

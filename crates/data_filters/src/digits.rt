@@ -1,7 +1,7 @@
 //! White space, digits and characters.
-ghost use Rattle.std.specs.Prelude.{◌≡◌, ◌<◌, ◌≤◌, ◌^◌, false, nat_lt, MatchOption};
+ghost use Rattle.std.specs.Prelude.{◌≡◌, ◌<◌, ◌≤◌, ◌^◌, MatchOption};
 ghost use Rattle.std.specs.Char.{digit_value};
-ghost use Rattle.data_filters.specs.Codes.{is_white, is_character, word_of};
+ghost use Rattle.data_filters.specs.Codes.{is_white, IsNoDigit, is_character, word_of};
 
 pub(crate) fn is_white(byte: u8) -> bool
     ensures { result ≡ is_white byte }
@@ -11,8 +11,8 @@ pub(crate) fn is_white(byte: u8) -> bool
 
 /// The value of a hexadecimal digit.
 pub(crate) fn hex_digit(byte: u8) -> Option<u8>
-    ensures value { MatchOption result (nat_lt (digit_value byte) 16 ≡ false) (λ digit. digit ≡ digit_value byte) }
-    ensures range { MatchOption result (nat_lt (digit_value byte) 16 ≡ false) (λ digit. digit < 16) }
+    ensures value { MatchOption result (IsNoDigit byte) (λ digit. digit ≡ digit_value byte) }
+    ensures range { MatchOption result (IsNoDigit byte) (λ digit. digit < 16) }
 {
     match byte {
         b'0'..=b'9' => Some(byte - b'0'),

@@ -1,8 +1,7 @@
 //! What is found behind the bytes of a code that were read.
-ghost use Rattle.std.specs.Prelude.{◌≡◌, ◌<◌, ◌≤◌, ◌^◌, ◌-◌, drop, nat_lt, if◌then◌else◌};
-ghost use Rattle.data_filters.specs.Codes.{cut_group, padded, word_of};
+ghost use Rattle.std.specs.Prelude.{◌≡◌, ◌<◌, ◌≤◌, ◌^◌, ◌-◌, drop};
+ghost use Rattle.data_filters.specs.Codes.{cut_group, padded, word_of, word_code};
 ghost use Rattle.data_filters.specs.Found.{without_digit, behind_digit, without_character, behind_tilde, behind_length, by_itself, whole, literal_found, part_end};
-ghost use Rattle.data_filters.specs.declared.code.Code.{Code};
 
 use crate::Given;
 use crate::code::{Code, Found, gives};
@@ -126,7 +125,7 @@ pub(crate) fn by_itself(given: Given) -> Found
 /// The four bytes of a group.
 pub(crate) fn group_of(value: u64) -> Found
     requires { value < 2 ^ 33 }
-    ensures { result ≡ whole (if nat_lt value (2 ^ 32) then Code.Gives (word_of value) 5 else Code.Wrong) }
+    ensures { result ≡ whole (word_code value) }
 {
     if value < 4_294_967_296 {
         Found::whole(gives(&word_of(value), 5))

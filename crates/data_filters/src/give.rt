@@ -236,8 +236,8 @@ fn settle(text: &[u8], layers: &[FilterLayer], now: &mut Reading, ahead: &mut Re
     requires stands { layer < length layers.now }
     requires now { length layers.now ≤ length now.old.standings }
     requires ahead { length layers.now ≤ length ahead.old.standings }
-    ensures settled { now.new ≡ settled text.now layer (kind_at layers.now layer) (source_below layers.now layer)
-        (give text.now (source_below layers.now layer)) now.old }
+    ensures settled { now.new ≡ settled text.now layer (kind_at layers.now layer)
+        (source_below layers.now layer) (give text.now (source_below layers.now layer)) now.old }
     ensures same { length now.new.standings ≡ length now.old.standings }
     ensures ahead { length ahead.new.standings ≡ length ahead.old.standings }
 {
@@ -265,9 +265,10 @@ fn take_code(
     requires stands { layer < length layers.now }
     requires now { length layers.now ≤ length now.old.standings }
     requires ahead { length layers.now ≤ length ahead.old.standings }
-    ensures given { code_taken text.now layer (kind_at layers.now layer) (source_below layers.now layer)
-        (give text.now (source_below layers.now layer)) now.old
-        (code (kind_at layers.now layer) (standing_at now.old layer).given (rest text.now (source_below layers.now layer) now.old))
+    ensures given { code_taken text.now layer (kind_at layers.now layer)
+        (source_below layers.now layer) (give text.now (source_below layers.now layer)) now.old
+        (code (kind_at layers.now layer) (standing_at now.old layer).given
+        (rest text.now (source_below layers.now layer) now.old))
         ≡ (result, now.new) }
     ensures same { length now.new.standings ≡ length now.old.standings }
     ensures ahead { length ahead.new.standings ≡ length ahead.old.standings }

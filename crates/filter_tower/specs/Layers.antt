@@ -14,6 +14,7 @@ layer_at layers k = slice_index_or layers k (record { below = 0; kind = Hex })
 abbrev pub below_at : List FilterLayer → ℕ → ℕ
 below_at layers k = (layer_at layers k).below
 
+-- the kind of the layer at a place
 abbrev pub kind_at : List FilterLayer → ℕ → FilterKind
 kind_at layers k = (layer_at layers k).kind
 
