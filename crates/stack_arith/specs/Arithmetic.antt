@@ -1,4 +1,4 @@
--- Sums, differences, products and quotients (section 3.9.2 of the language manual).
+-- Sums, differences, products and quotients (section 8.2 of the language manual).
 use Rattle.std.specs.Prelude.{ℤ, pos, ◌+ℤ◌, ◌-ℤ◌, ◌*ℤ◌, int_div, int_rem, if◌then◌else◌}
 use Rattle.std.specs.Prelude.{Result, Ok, Err}
 use Rattle.std.specs.Ordering.{int_eq}

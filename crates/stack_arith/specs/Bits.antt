@@ -1,4 +1,4 @@
--- Operators on booleans and on the bits of integers (section 3.9.3 of the language manual).
+-- Operators on booleans and on the bits of integers (section 8.2 of the language manual).
 use Rattle.std.specs.Prelude.{ℕ, ℤ, pos, negsuc, ◌+◌, ◌*◌, ◌/◌, ◌%◌, ◌^◌, ◌∷◌, drop}
 use Rattle.std.specs.Prelude.{Bool, true, false, not, ◌&&◌, ◌||◌, Result, Ok, Err}
 use Rattle.std.specs.Bool.{beq}

@@ -1,4 +1,4 @@
--- Equality and order (section 3.9.3 of the language manual).
+-- Equality and order (section 8.2 of the language manual).
 use Rattle.std.specs.Prelude.{ℕ, ℤ, Bool, true, false, not, ◌&&◌, nat_eq, cond}
 use Rattle.std.specs.Prelude.{List, [], ◌∷◌, drop, Option, Some, None}
 use Rattle.std.specs.Ordering.{int_eq, int_cmp, nat_cmp, is_lt, is_le, is_gt, is_ge}

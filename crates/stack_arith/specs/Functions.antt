@@ -1,4 +1,4 @@
--- Square roots, sines and arc tangents (section 3.9.2 of the language manual).
+-- Square roots, sines and arc tangents (section 8.2 of the language manual).
 use Rattle.std.specs.Prelude.{ℤ, pos, int_le, if◌then◌else◌, Result, Ok, Err}
 use Rattle.ps_shapes.specs.declared.numbers.Real.{Real}
 use Rattle.ps_fixed.specs.Sines.{sine_of, cosine_of}

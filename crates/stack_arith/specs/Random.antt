@@ -1,4 +1,4 @@
--- Random numbers (section 3.9.2 of the language manual).
+-- Random numbers (section 8.2 of the language manual).
 use Rattle.std.specs.Prelude.{ℕ, ℤ, pos, ◌*◌, ◌%◌, nat_eq, unsigned_abs, if◌then◌else◌}
 use Rattle.std.specs.Prelude.{[], ◌∷◌, drop}
 use Rattle.std.specs.Int.{int_rem_euclid}

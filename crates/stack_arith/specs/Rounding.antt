@@ -1,4 +1,4 @@
--- Absolute values, negation and rounding (section 3.9.2 of the language manual).
+-- Absolute values, negation and rounding (section 8.2 of the language manual).
 use Rattle.std.specs.Prelude.{ℤ, pos, ◌+ℤ◌, ◌*ℤ◌, neg_ℤ, int_div, unsigned_abs, Result, Ok, ◌^◌}
 use Rattle.ps_shapes.specs.declared.numbers.Real.{Real}
 use Rattle.ps_fixed.specs.Rounding.{floor_of, real_of}

@@ -1,4 +1,4 @@
--- The operators on the operand stack (section 3.9.1 of the language manual).
+-- The operators on the operand stack (section 8.2 of the language manual).
 use Rattle.std.specs.Prelude.{ℕ, ℤ, pos, negsuc, ◌+◌, ◌-◌, ◌%◌, [], ◌∷◌, length, drop}
 use Rattle.std.specs.Prelude.{nat_eq, if◌then◌else◌}
 use Rattle.ps_objects.specs.declared.object.Kind.TheVariants as kind

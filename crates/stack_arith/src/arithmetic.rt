@@ -1,4 +1,4 @@
-//! Sums, differences, products and quotients (section 3.9.2 of the language manual).
+//! Sums, differences, products and quotients (section 8.2 of the language manual).
 ghost use Rattle.std.specs.Prelude.{◌≡◌};
 ghost use Rattle.ps_operator.specs.Owes.{DoesAlone};
 ghost use Rattle.stack_arith.specs.Arithmetic as spec;

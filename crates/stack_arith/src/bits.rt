@@ -1,4 +1,4 @@
-//! Operators on booleans and on the bits of integers (section 3.9.3 of the language manual).
+//! Operators on booleans and on the bits of integers (section 8.2 of the language manual).
 ghost use Rattle.std.specs.Prelude.{◌≡◌};
 ghost use Rattle.ps_operator.specs.Owes.{DoesAlone};
 ghost use Rattle.stack_arith.specs.Bits as spec;

@@ -1,4 +1,4 @@
-//! Equality and order (section 3.9.3 of the language manual).
+//! Equality and order (section 8.2 of the language manual).
 #![tactic(auto, using(ps_operator::proofs::Then::answer_then, ps_operator::proofs::Then::reads_then, ps_operator::proofs::Standing::object_stands, ps_operator::proofs::Standing::string_stands))]
 
 ghost use Rattle.std.specs.Prelude.{◌≡◌, true, IfOk, OnOk};
@@ -76,7 +76,8 @@ fn text_right(object: &Object) -> Result<(), ErrorName>
 fn text_of<M: Mem>(alloc: Global, kind: &Kind, mem: &mut M) -> Result<Vec<u8>, NoMemory>
     requires { is_named (M.log mem.old).view kind.now ≡ true }
     ensures view { OnOk result ((M.log mem.new).view ≡ (M.log mem.old).view) }
-    ensures told { IfOk result (λ v. Finds (spec.text_of kind.now) (M.log mem.old) v.items (M.log mem.new)) }
+    ensures told { IfOk result (λ v.
+        Finds (spec.text_of kind.now) (M.log mem.old) v.items (M.log mem.new)) }
 {
     match kind {
         Kind::Str(string) => bytes_of(alloc, *string, mem),

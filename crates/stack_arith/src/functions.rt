@@ -1,4 +1,4 @@
-//! Square roots, sines and arc tangents (section 3.9.2 of the language manual).
+//! Square roots, sines and arc tangents (section 8.2 of the language manual).
 ghost use Rattle.std.specs.Prelude.{◌≡◌};
 ghost use Rattle.ps_operator.specs.Owes.{DoesAlone};
 ghost use Rattle.stack_arith.specs.Functions as spec;

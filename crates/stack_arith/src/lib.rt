@@ -1,4 +1,4 @@
-//! Operators on the operand stack, on numbers and on truth values (sections 3.9.1 to 3.9.3 of the language manual).
+//! Operators on the operand stack, on numbers and on truth values (section 8.2 of the language manual).
 #![tactic(auto)]
 
 mod arithmetic;

@@ -1,4 +1,4 @@
-//! Random numbers (section 3.9.2 of the language manual).
+//! Random numbers (section 8.2 of the language manual).
 #![tactic(auto, using(ps_operator::proofs::Standing::random_stands, ps_operator::proofs::Standing::page_stands))]
 
 ghost use Rattle.std.specs.Prelude.{◌≡◌, ◌<◌};

@@ -1,4 +1,4 @@
-//! Absolute values, negation and rounding (section 3.9.2 of the language manual).
+//! Absolute values, negation and rounding (section 8.2 of the language manual).
 ghost use Rattle.std.specs.Prelude.{◌≡◌, pos, ◌*ℤ◌, ◌≤ℤ◌, ◌^◌, negsuc};
 ghost use Rattle.ps_operator.specs.Owes.{DoesAlone};
 ghost use Rattle.stack_arith.specs.Numbers.{defined};

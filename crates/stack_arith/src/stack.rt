@@ -1,4 +1,4 @@
-//! The operators on the operand stack (section 3.9.1 of the language manual).
+//! The operators on the operand stack (section 8.2 of the language manual).
 ghost use Rattle.std.specs.Prelude.{◌≡◌, ◌≤◌};
 ghost use Rattle.ps_operator.specs.Owes.{DoesAlone};
 ghost use Rattle.stack_arith.specs.Stack as spec;
