@@ -1,8 +1,8 @@
 //! Pages and messages that go to two sinks.
-ghost use Rattle.std.specs.Prelude.{◌≡◌, ◌≤◌, ◌∷◌, [], OnOk, OnErr};
+ghost use Rattle.std.specs.Prelude.{◌≡◌, ◌≤◌, OnOk, OnErr};
 ghost use Rattle.out_writers.specs.Faults.{IsFailed};
-ghost use Rattle.out_writers.specs.Texts.{pictures};
-ghost use Rattle.rip_ports.specs.Ports.{Appends, AppendsFront, HasRisen};
+ghost use Rattle.out_writers.specs.Showing.{Shows, ShowsFront};
+ghost use Rattle.rip_ports.specs.Ports.{HasRisen};
 
 use crate::{OutRefusal, Outlet, header};
 use ps_kinds::Paper;
@@ -32,8 +32,8 @@ impl<'a, P, B> ToSinks<'a, P, B> {
 fn put_picture<P: Sink>(alloc: Global, paper: &Paper, pages: &mut P) -> Result<(), OutRefusal>
     ensures counted { P.faults pages.old ≤ P.faults pages.new }
     ensures failed { IsFailed result → HasRisen (P.faults pages.old) (P.faults pages.new) }
-    ensures put { OnOk result (Appends (pictures (paper.now ∷ [])) (P.holds pages.old) (P.holds pages.new)) }
-    ensures cut { OnErr result (AppendsFront (pictures (paper.now ∷ [])) (P.holds pages.old) (P.holds pages.new)) }
+    ensures put { OnOk result (Shows paper.now (P.holds pages.old) (P.holds pages.new)) }
+    ensures cut { OnErr result (ShowsFront paper.now (P.holds pages.old) (P.holds pages.new)) }
 {
     let head = header(alloc, paper)?;
     pages.put(head.as_slice())?;
