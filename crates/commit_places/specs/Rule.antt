@@ -32,6 +32,7 @@ pub data Status : Type 0 where
 abbrev pub mark : ℕ
 mark = 2 ^ 32
 
+-- the place of a page
 abbrev pub place_of : ℕ → ℕ → ℕ
 place_of ahead page = (page - 1) % ahead
 
@@ -52,6 +53,7 @@ ticket_of (Committer view) = Free
 ticket_of (Hand view) = view.ticket
 ticket_of Joined = Free
 
+-- the ticket of the hand in a seat
 abbrev pub ticket_at : List View → ℕ → Ticket
 ticket_at views seat = ticket_of (slice_index_or views seat Joined)
 
@@ -101,6 +103,7 @@ finishes_of taking = 1
 finishes_of gone = 1
 finishes_of lost = 0
 
+-- the page that a ticket is for, if it is held
 abbrev pub pages_in : Ticket → List ℕ
 pages_in Free = []
 pages_in (Held stage page) = page ∷ []

@@ -24,6 +24,7 @@ pub record PlacesId : Type 0 where
   pub table : TableId
   pub sizes : Sizes
 
+-- the sizes of so many pages, places and workers
 abbrev pub sizes_with : ℕ → ℕ → ℕ → Sizes
 sizes_with pages ahead workers = record { pages = pages; ahead = ahead; workers = workers }
 
@@ -58,6 +59,7 @@ IsHandWith me page = (me ≡ (Hand (hand_of me.0), [])) × (page ≡ page_of (ha
 abbrev pub hand_state : TableId → HandView → HandState
 hand_state table view = record { places = record { table = table; sizes = view.sizes }; ticket = view.ticket; is_over = view.is_over; drawn = view.drawn; finished = view.finished }
 
+-- the committer as code holds it
 abbrev pub committer_state : TableId → CommitterView → CommitterState
 committer_state table view =
     record { places = record { table = table; sizes = view.sizes }; count = view.count; next = view.next; is_stopped = view.is_stopped; hands = view.hands; drawn = view.drawn; finished = view.finished }

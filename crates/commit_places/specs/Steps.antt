@@ -17,12 +17,15 @@ abbrev pub page_of : Ticket → ℕ
 page_of Free = 0
 page_of (Held stage page) = page
 
+-- of no pages, places and workers
 abbrev pub no_sizes : Sizes
 no_sizes = record { pages = 0; ahead = 0; workers = 0 }
 
+-- the committer before any step
 abbrev pub first_committer : Sizes → CommitterView
 first_committer sizes = record { sizes = sizes; count = 0; next = Waiting; is_stopped = false; hands = 0; joined_over = 0; joined = 0; drawn = []; finished = [] }
 
+-- a hand that was just split
 abbrev pub new_hand : Sizes → HandView
 new_hand sizes = record { sizes = sizes; ticket = Free; is_over = false; drawn = []; finished = [] }
 
@@ -36,17 +39,21 @@ hand_looking hand count =
     if (nat_le mark count) then (record hand { ticket = Free })
     else if (nat_le (page_of hand.ticket) (count + hand.sizes.ahead)) then (record hand { ticket = Held Begun (page_of hand.ticket) }) else hand
 
+-- a hand that lays its page down
 abbrev pub hand_placing : HandView → HandView
 hand_placing hand = record hand { ticket = Held Placing (page_of hand.ticket) }
 
+-- a hand that has laid its page down
 abbrev pub hand_finished : HandView → HandView
 hand_finished hand = record hand { ticket = Free; finished = page_of hand.ticket ∷ hand.finished }
 
+-- a change of what a hand knows
 abbrev pub on_hand : (HandView → HandView) → View → View
 on_hand change (Committer view) = Committer view
 on_hand change (Hand view) = Hand (change view)
 on_hand change Joined = Joined
 
+-- a change of what the committer knows
 abbrev pub on_committer : (CommitterView → CommitterView) → View → View
 on_committer change (Committer view) = Committer (change view)
 on_committer change (Hand view) = Hand view
@@ -58,6 +65,7 @@ hand_of (Committer view) = new_hand view.sizes
 hand_of (Hand view) = view
 hand_of Joined = new_hand no_sizes
 
+-- what the committer of a seat knows
 abbrev pub committer_of : View → CommitterView
 committer_of (Committer view) = view
 committer_of (Hand view) = first_committer view.sizes
@@ -67,6 +75,7 @@ committer_of Joined = first_committer no_sizes
 abbrev pub committer_splitting : CommitterView → CommitterView
 committer_splitting view = record view { hands = view.hands + 1 }
 
+-- the sizes that a seat knows
 abbrev pub sizes_of : View → Sizes
 sizes_of (Committer view) = view.sizes
 sizes_of (Hand view) = view.sizes

@@ -1,8 +1,6 @@
 ghost use Rattle.std.specs.Prelude.{◌≡◌, ℕ, ◌+◌, ◌*◌, ◌^◌, ◌<◌, ◌≤◌, true, false, if◌then◌else◌, IsTrue, IfSome};
-ghost use Rattle.commit_places.specs.Seats.{MayDraw, HasDrawn, MayTake};
-ghost use Rattle.commit_places.specs.Steps.{page_of};
-ghost use Rattle.commit_places.specs.declared.view.Ticket.TheVariants.{Free, Held};
-ghost use Rattle.commit_places.specs.declared.view.Stage.TheVariants.{Begun};
+ghost use Rattle.commit_places.specs.Seats.{MayDraw, HasDrawn, MayTake, after_ready};
+ghost use Rattle.commit_places.specs.declared.answer.Ready.TheVariants.{Go, Stopped};
 ghost use Rattle.commit_places.specs.declared.view.Next.TheVariants.{Waiting, Taken};
 
 use super::*;
@@ -140,7 +138,7 @@ struct Worker<'a> {
 // Waits until the hand's page may begin. Says whether it may; it may not where the work is stopped.
 fn begin<R: Wait>(rt: &R, places: &Places<Squares>, hand: &mut Hand<u64>) -> bool
     requires { (hand.old.places ≡ places.now) × HasDrawn hand.old }
-    ensures { hand.new ≡ (if result then (record hand.old { ticket = Held Begun (page_of hand.old.ticket) }) else (record hand.old { ticket = Free })) }
+    ensures { hand.new ≡ after_ready hand.old (if result then Go else Stopped) }
 {
     for _ in rt.forever() {
         match places.ready(hand) {
@@ -201,7 +199,11 @@ fn commit_all<R: Wait + Abort>(
     committer: &mut Committer<u64>,
     pages: u32,
 )
-    requires { (committer.old.places ≡ places.now) × (pages ≡ places.now.sizes.pages) × (committer.old.count ≡ 0) × (committer.old.next ≡ Waiting) × (committer.old.is_stopped ≡ false) }
+    requires places { committer.old.places ≡ places.now }
+    requires all { pages ≡ places.now.sizes.pages }
+    requires none { committer.old.count ≡ 0 }
+    requires waits { committer.old.next ≡ Waiting }
+    requires runs { committer.old.is_stopped ≡ false }
 {
     for count in 0..pages {
         let page = count + 1;
@@ -220,7 +222,9 @@ struct Manager<'a> {
     pages: u32,
     ghost here: { committer.places ≡ places.now },
     ghost all: { pages ≡ places.now.sizes.pages },
-    ghost fresh: { (committer.count ≡ 0) × (committer.next ≡ Waiting) × (committer.is_stopped ≡ false) },
+    ghost none: { committer.count ≡ 0 },
+    ghost waits: { committer.next ≡ Waiting },
+    ghost runs: { committer.is_stopped ≡ false },
 }
 
 impl<'a> Manager<'a> {
@@ -241,7 +245,8 @@ fn hire<'x>(
     committer: &mut Committer<u64>,
     workers: u32,
 ) -> Result<Vec<Worker<'x>>, AllocError>
-    requires { (committer.old.places ≡ places.now) × (committer.old.hands + workers ≤ places.now.sizes.workers + 1) }
+    requires places { committer.old.places ≡ places.now }
+    requires hands { committer.old.hands + workers ≤ places.now.sizes.workers + 1 }
     ensures { committer.new ≡ record committer.old { hands = committer.new.hands } }
 {
     let mut all = Vec::with_capacity(alloc, workers as usize)?;

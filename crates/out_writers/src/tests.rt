@@ -1,6 +1,6 @@
 ghost use Rattle.std.specs.Prelude.{◌≡◌, [], ◌∷◌, OnOk, OnErr};
-ghost use Rattle.out_writers.specs.Texts.{pictures};
-ghost use Rattle.rip_ports.specs.Ports.{Appends, AppendsFront};
+ghost use Rattle.out_writers.specs.Showing.{Shows, ShowsFront};
+ghost use Rattle.rip_ports.specs.Ports.{Appends};
 
 use crate::{Kept, OutRefusal, Outlet, ToSinks, header, report};
 use ps_kinds::{NoMemory, Paper};
@@ -44,9 +44,9 @@ fn give_to_sinks<P: Sink, B: Sink>(
     pages: &mut P,
     back: &mut B,
 ) -> Result<(), OutRefusal>
-    ensures pages { OnOk result (Appends (pictures (paper.now ∷ [])) (P.holds pages.old) (P.holds pages.new)) }
+    ensures pages { OnOk result (Shows paper.now (P.holds pages.old) (P.holds pages.new)) }
     ensures back { OnOk result (Appends [] (B.holds back.old) (B.holds back.new)) }
-    ensures cut { OnErr result (AppendsFront (pictures (paper.now ∷ [])) (P.holds pages.old) (P.holds pages.new)) }
+    ensures cut { OnErr result (ShowsFront paper.now (P.holds pages.old) (P.holds pages.new)) }
 {
     let mut both = ToSinks::new(alloc, pages, back);
     give(&mut both, paper)
