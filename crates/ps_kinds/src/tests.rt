@@ -45,23 +45,75 @@ fn start(rt: &HostRuntime) -> GState {
     }
 }
 
-/// A section's state, with a string and a shown string that run.
-fn running(rt: &HostRuntime, regs: Regs) -> Result<State, NoMemory> {
-    let mut frames = Frames::new(rt.alloc());
-    frames.push(Frame::Text {
-        string: null(),
-        bytes: Text::from_bytes(rt.alloc(), b"add")?,
-        place: 2,
+/// A stack of one graphics state.
+fn layers(rt: &HostRuntime) -> Result<GStack, NoMemory> {
+    let mut states = GStack::new(rt.alloc());
+    states.push(Layer {
+        state: start(rt),
+        base: true,
     })?;
+    Ok(states)
+}
+
+fn mark(rt: &HostRuntime, states: GStack) -> SaveMark {
+    SaveMark {
+        name: SaveName {
+            section: 1,
+            count: 0,
+        },
+        state: start(rt),
+        states,
+        global: false,
+        packing: true,
+    }
+}
+
+/// The mark of one save.
+fn saves(rt: &HostRuntime) -> Result<Saves, NoMemory> {
+    let states = layers(rt)?;
+    let mut saves = Saves::new(rt.alloc());
+    saves.push(mark(rt, states))?;
+    Ok(saves)
+}
+
+fn registers(rt: &HostRuntime, saves: Saves) -> Regs {
+    Regs {
+        operands: Objects::new(rt.alloc()),
+        dicts: DictStack::new(rt.alloc()),
+        state: start(rt),
+        states: GStack::new(rt.alloc()),
+        saves,
+        global: true,
+        packing: false,
+    }
+}
+
+fn shown(rt: &HostRuntime) -> Result<Frame, NoMemory> {
     let run = ShowRun {
         string: null(),
         at: 3,
         form: ShowForm::Kshow { procedure: null() },
         phase: ShowPhase::Between,
     };
-    frames.push(Frame::Show(Boxed::new(rt.alloc(), run)?))?;
-    Ok(State {
-        regs,
+    Ok(Frame::Show(Boxed::new(rt.alloc(), run)?))
+}
+
+/// A string and a shown string that run.
+fn frames(rt: &HostRuntime) -> Result<Frames, NoMemory> {
+    let mut frames = Frames::new(rt.alloc());
+    frames.push(Frame::Text {
+        string: null(),
+        bytes: Text::from_bytes(rt.alloc(), b"add")?,
+        place: 2,
+    })?;
+    frames.push(shown(rt)?)?;
+    Ok(frames)
+}
+
+/// A section's state with these frames.
+fn running(rt: &HostRuntime, frames: Frames) -> State {
+    State {
+        regs: registers(rt, Saves::new(rt.alloc())),
         settings: Settings {
             dpi: 72,
             width: 612,
@@ -78,63 +130,67 @@ fn running(rt: &HostRuntime, regs: Regs) -> Result<State, NoMemory> {
         said: 0,
         place: 8,
         frames,
-    })
+    }
+}
+
+// What is asked of a copy. Each test holds few values, since it may end at each of its steps, and lets go of them there.
+
+fn state_copies(state: &GState) -> Result<bool, NoMemory> {
+    Ok(state.copy()? == *state)
+}
+
+fn stack_copies(states: &GStack) -> Result<bool, NoMemory> {
+    Ok(states.copy()? == *states)
+}
+
+fn registers_copy(regs: &Regs) -> Result<bool, NoMemory> {
+    let copy = regs.copy()?;
+    Ok(copy == *regs && copy.first_difference(regs) == None)
+}
+
+fn difference_is_told(regs: &Regs) -> Result<bool, NoMemory> {
+    let mut copy = regs.copy()?;
+    copy.global = !copy.global;
+    Ok(copy != *regs && copy.first_difference(regs) == Some(RegField::Global))
+}
+
+fn section_copies(state: &State) -> Result<bool, NoMemory> {
+    let copy = state.copy()?;
+    Ok(copy.regs == state.regs && copy.count == 5 && copy.frames.len() == 2)
 }
 
 #[test]
-fn copies_are_equal(rt: HostRuntime) -> Result<(), Fail> {
-    let state = start(&rt);
-    assert!(rt; state.copy()? == state);
-    let mut states = GStack::new(rt.alloc());
-    states.push(Layer { state, base: true })?;
-    assert!(rt; states.copy()? == states);
-    let mark = SaveMark {
-        name: SaveName {
-            section: 1,
-            count: 0,
-        },
-        state: start(&rt),
-        states,
-        global: false,
-        packing: true,
-    };
-    let mut saves = Saves::new(rt.alloc());
-    saves.push(mark)?;
-    let regs = Regs {
-        operands: Objects::new(rt.alloc()),
-        dicts: DictStack::new(rt.alloc()),
-        state: start(&rt),
-        states: GStack::new(rt.alloc()),
-        saves,
-        global: true,
-        packing: false,
-    };
-    let copy = regs.copy()?;
-    assert!(rt; copy == regs);
-    assert!(rt; copy.first_difference(&regs) == None);
-    let mut changed = copy;
-    changed.global = false;
-    assert!(rt; changed != regs);
-    assert!(rt; changed.first_difference(&regs) == Some(RegField::Global));
+fn copies_of_graphics_states_are_equal(rt: HostRuntime) -> Result<(), Fail> {
+    let same = state_copies(&start(&rt))?;
+    assert!(rt; same);
+    let same = stack_copies(&layers(&rt)?)?;
+    assert!(rt; same);
+    Ok(())
+}
+
+#[test]
+fn copies_of_registers_are_equal(rt: HostRuntime) -> Result<(), Fail> {
+    let same = registers_copy(&registers(&rt, saves(&rt)?))?;
+    assert!(rt; same);
+    Ok(())
+}
+
+#[test]
+fn differences_of_registers_are_told(rt: HostRuntime) -> Result<(), Fail> {
+    let is_told = difference_is_told(&registers(&rt, saves(&rt)?))?;
+    assert!(rt; is_told);
     Ok(())
 }
 
 #[test]
 fn copies_of_states_are_equal(rt: HostRuntime) -> Result<(), Fail> {
-    let regs = Regs {
-        operands: Objects::new(rt.alloc()),
-        dicts: DictStack::new(rt.alloc()),
-        state: start(&rt),
-        states: GStack::new(rt.alloc()),
-        saves: Saves::new(rt.alloc()),
-        global: true,
-        packing: false,
-    };
-    let state = running(&rt, regs)?;
-    let copy = state.copy()?;
-    assert!(rt; copy.regs == state.regs);
-    assert!(rt; copy.count == 5);
-    assert!(rt; copy.frames.len() == 2);
+    let same = section_copies(&running(&rt, frames(&rt)?))?;
+    assert!(rt; same);
+    Ok(())
+}
+
+#[test]
+fn acts_and_frames_answer(rt: HostRuntime) -> Result<(), Fail> {
     let said = Act::Say(Text::from_bytes(rt.alloc(), b"done")?);
     assert!(rt; matches!(said.copy()?, Act::Say(_)));
     assert!(rt; frames_room(&Frames::new(rt.alloc()), 1000) == Ok(()));
