@@ -2,6 +2,12 @@
 #![tactic(auto)]
 
 #[cfg(test)]
+mod asked;
+#[cfg(test)]
+mod plain;
+#[cfg(test)]
+mod script;
+#[cfg(test)]
 mod tests;
 
 pub use vm_committed::Cells;

@@ -1,6 +1,6 @@
 use Rattle.std.proofs.Common.{◌≡◌, length}
 use Rattle.ps_memory.specs.Memory.{copy_named}
-use Rattle.vm_cells.proofs.tests.is_open_in.Given as goal
+use Rattle.vm_cells.proofs.asked.is_open_in.Given as goal
 
 -- what is left to be closed has the same copy
 abbrev pub invariant-loop-left : goal.invariant-loop-left

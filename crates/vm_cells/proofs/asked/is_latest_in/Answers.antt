@@ -1,7 +1,7 @@
 use Rattle.std.proofs.Common.{sym, ap, ◌∙◌}
 use Rattle.vm_journal.specs.Part.{Part}
 use Rattle.vm_cells.proofs.Asking.{later_than_newest}
-use Rattle.vm_cells.proofs.tests.is_latest_in.Goals as goal
+use Rattle.vm_cells.proofs.asked.is_latest_in.Goals as goal
 
 pub returns-in-Some : goal.returns-in-Some
 returns-in-Some c h =
