@@ -10,7 +10,8 @@ ghost use Rattle.ps_operator.specs.Standing.{is_dict, Stays};
 ghost use Rattle.dict_ops.specs.Pairs as spec;
 
 use ps_kinds::{
-    Cell, ErrorName, Kind, NoMemory, Object, Objects, Operands, Pair, Refusal, Stack, State,
+    Cell, ErrorName, Kind, NAME_LIMIT, NoMemory, Object, Objects, Operands, Pair, Refusal, Stack,
+    State,
 };
 use ps_operator::{
     Mem, above_mark, key_of, key_right_at, make_dict, next_cell, push_result, storable_entry,
@@ -55,7 +56,7 @@ fn short_key(kind: &Kind) -> Result<(), ErrorName>
 {
     match kind {
         Kind::Str(string) => {
-            if string.len > 127 {
+            if string.len as usize > NAME_LIMIT {
                 Err(ErrorName::LimitCheck)
             } else {
                 Ok(())
@@ -160,7 +161,8 @@ pub(crate) fn store_pairs<M: Mem>(
     pairs: Stack<Pair>,
 ) -> Result<(), NoMemory>
     requires { is_dict (M.log mem.old).view dict ≡ true }
-    ensures { OnOk result (M.log mem.new ≡ changed_in (M.log mem.old) (spec.pair_stores dict pairs)) }
+    ensures { OnOk result (M.log mem.new
+        ≡ changed_in (M.log mem.old) (spec.pair_stores dict pairs)) }
 {
     let mut pairs = pairs;
     while let Some(pair) = pairs.pop() {

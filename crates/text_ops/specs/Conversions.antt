@@ -1,4 +1,4 @@
--- Conversions of texts, numbers and names (section 3.9.5 of the language manual).
+-- Conversions of texts, numbers and names (section 8.2 of the language manual).
 use Rattle.std.specs.Prelude.{ℕ, nat_lt, if◌then◌else◌, List, [], ◌∷◌, drop, length, Result, Ok, Err}
 use Rattle.ps_names.specs.declared.error_name.ErrorName.{ErrorName}
 use Rattle.ps_names.specs.declared.error_name.ErrorName.TheVariants.{LimitCheck, TypeCheck}

@@ -1,4 +1,4 @@
--- Messages (section 3.8.4 of the language manual).
+-- Messages (section 8.2 of the language manual).
 use Rattle.std.specs.Prelude.{ℕ, ◌+◌, List, [], ◌∷◌, ◌++◌, drop}
 use Rattle.ps_objects.specs.Operands.{needed, object_at, string_at, readable_at}
 use Rattle.ps_objects.specs.declared.object.Object.{Object}

@@ -1,4 +1,4 @@
-//! Conversions of texts, numbers and names (section 3.9.5 of the language manual).
+//! Conversions of texts, numbers and names (section 8.2 of the language manual).
 #![tactic(auto, using(ps_operator::proofs::Then::answer_then, ps_operator::proofs::Then::reads_then, ps_operator::proofs::Standing::string_stands, ps_operator::proofs::Standing::object_stands, ps_operator::proofs::StoreSteps::bytes_take_none, crate::proofs::Ends::string_ends, crate::proofs::Ends::plain_stands))]
 
 ghost use Rattle.std.specs.Prelude.{◌≡◌, ◌≤◌, ◌^◌, ◌<◌, ◌+◌, ◌∷◌, length, drop, true, OnOk};

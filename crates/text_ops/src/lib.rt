@@ -1,4 +1,4 @@
-//! Operators on texts: strings, conversions and messages (sections 3.9.4, 3.9.5 and 3.8.4 of the language manual).
+//! Operators on texts: strings, conversions and messages (section 8.2 of the language manual).
 #![tactic(auto)]
 
 mod conversions;

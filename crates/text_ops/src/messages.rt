@@ -1,4 +1,4 @@
-//! Messages (section 3.8.4 of the language manual).
+//! Messages (section 8.2 of the language manual).
 #![tactic(auto, using(ps_operator::proofs::Then::answer_then, ps_operator::proofs::Standing::string_stands, crate::proofs::Ends::plain_stands))]
 
 ghost use Rattle.std.specs.Prelude.{◌≡◌};

@@ -42,7 +42,8 @@ impl Plain {
         requires { spec.stands (M.log mem.old).view self ≡ true }
         ensures view { OnOk result ((M.log mem.new).view ≡ (M.log mem.old).view) }
         ensures length { IfOk result (λ text. length text ≡ spec.plain_length self) }
-        ensures told { IfOk result (λ text. Finds (spec.plain_told self) (M.log mem.old) text (M.log mem.new)) }
+        ensures told { IfOk result (λ text.
+            Finds (spec.plain_told self) (M.log mem.old) text (M.log mem.new)) }
     {
         match self {
             Plain::Known(text) => Ok(text),

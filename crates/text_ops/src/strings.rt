@@ -1,4 +1,4 @@
-//! New strings, and searches in strings (section 3.9.4 of the language manual).
+//! New strings, and searches in strings (section 8.2 of the language manual).
 #![tactic(auto, using(ps_operator::proofs::Then::answer_then, ps_operator::proofs::Standing::string_stands, crate::proofs::Ends::string_ends))]
 
 ghost use Rattle.std.specs.Prelude.{◌≡◌};
