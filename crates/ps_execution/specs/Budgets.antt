@@ -7,6 +7,7 @@ use Rattle.ps_meaning.specs.Budgets.{turn_budget}
 abbrev pub left : State → ℕ
 left s = turn_budget s.kind - s.turns
 
+-- the state with one more turn
 abbrev pub counted : State → State
 counted s = record s { turns = suc s.turns }
 

@@ -45,6 +45,7 @@ pub record FitsCame (text : List ℕ) (before : State) (n : ℕ) (W : World) (c 
   pub within : IsInText text c.state
   pub paid : c.state.count + before.units ≤ before.count + n + c.state.units
 
+-- each operator, each step and each leaving of a show leaves what fits, and a step that costs no turn begins nothing
 pub record LawfulTable (T : Table) : Type 0 where
   pub steady : IsSteady T
   pub run : (n : ℕ) (text : List ℕ) (s : State) (W : World) → Fits text W s → Lawful (applies s.frames (T.run n text s) s) W (FitsCame text s 4)
@@ -57,6 +58,7 @@ pub record LawfulTable (T : Table) : Type 0 where
 
 -- ---- what is read
 
+-- an object that was spelt fits
 abbrev pub FitsSpelt : World → Spelt → Type 0
 FitsSpelt W (object x) = FitsObject W.shapes x
 FitsSpelt W (bad e) = ⊤
@@ -77,6 +79,7 @@ pub record FitsRead (text : List ℕ) (before : State) (size : ℕ) (W V : World
   pub turns : d.state.turns ≡ before.turns
   pub paid : d.state.count + before.units ≤ before.count + unpaid d.spelt + d.state.units
 
+-- reading a text from a place within it is lawful
 abbrev pub ReadLaw : Type 0
 ReadLaw = (text bytes : List ℕ) (place : ℕ) (s : State) (W : World) → Fits text W s → place ≤ length bytes → Lawful (reads (gather bytes place s) s) W (FitsRead text s (length bytes) W)
 
@@ -86,16 +89,19 @@ ReadLaw = (text bytes : List ℕ) (place : ℕ) (s : State) (W : World) → Fits
 abbrev pub IsPaid : ℕ → State → Type 0
 IsPaid n s = s.count ≤ 5 * s.turns + s.units + n
 
+-- a state, and the object of an error, fit, and the names that were taken are paid
 abbrev pub FitsMove : List ℕ → World → Move → Type 0
 FitsMove text W (goes s) = Fits text W s × IsPaid 0 s
 FitsMove text W (raised e x s) = Fits text W s × FitsObject W.shapes x × IsPaid 1 s
 FitsMove text W (ended o s) = Fits text W s
 
+-- a state in which a run ended fits
 abbrev pub FitsEnding : World → Ending → Type 0
 FitsEnding W e = FitsWorld W e.state
 
 -- ---- moves over a memory
 
+-- the state of a move
 abbrev pub state_of : Move → State
 state_of (goes s) = s
 state_of (raised e x s) = s

@@ -32,23 +32,29 @@ use Rattle.ps_execution.specs.Table.{Program}
 
 -- ---- effects
 
+-- the state with these operands
 abbrev pub with_operands : List Object → State → State
 with_operands xs s = record s { regs = record s.regs { operands = xs } }
 
+-- the state with one more operand
 abbrev pub pushed : Object → State → State
 pushed x s = with_operands (x ∷ s.regs.operands) s
 
+-- nothing else is done
 abbrev pub goes_on : State → Application Effect
 goes_on s = done [] (record { state = s; frames = []; act = act.Done })
 
+-- an object is pushed, where there is room: stackoverflow
 abbrev pub pushes : Object → State → Application Effect
 pushes x s = read (room_for 1 s.regs.operands) (λ _. goes_on (pushed x s))
 
+-- a frame begins, where there is room: execstackoverflow
 abbrev pub begins : Frame → State → Application Effect
 begins f s = read (frames_room 1 s.frames) (λ _. done [] (record { state = s; frames = []; act = act.Body f }))
 
 -- ---- procedures and strings
 
+-- the byte of a value
 abbrev pub byte_in : Value → ℕ
 byte_in (value.Byte n) = n
 byte_in _ = 0
@@ -74,6 +80,7 @@ begins_kind x (kind.Array part packed) s = runs_procedure x part.len s
 begins_kind x (kind.Str part) s = runs_string x part s
 begins_kind x _ s = begins (frame.Proc x 0) s
 
+-- an executable procedure or string begins; any other object is pushed
 abbrev pub begins_object : Object → State → Application Effect
 begins_object x s = cond x.exec (begins_kind x x.kind s) (pushes x s)
 
@@ -91,9 +98,11 @@ abbrev pub value_kind : Program → Object → Kind → State → Application Ef
 value_kind P x (kind.Operator n) s = P.table.run n P.text s
 value_kind P x k s = cond x.exec (runs_kind P x k s) (pushes x s)
 
+-- an object to which a name led is run where it is executable, and else pushed
 abbrev pub runs_value : Program → Object → State → Application Effect
 runs_value P x s = value_kind P x x.kind s
 
+-- goes on with the object of a value, or without one
 abbrev pub found_in : {A : Type 0} → Value → (Object → Application A) → Application A → Application A
 found_in (value.Object x) found missing = found x
 found_in _ found missing = missing
@@ -111,6 +120,7 @@ met_kind P x (kind.Str part) s = runs_string x part s
 met_kind P x kind.Null s = goes_on s
 met_kind P x _ s = pushes x s
 
+-- an object that the text or a procedure has is executed where it is executable, and else pushed
 abbrev pub executes : Program → Object → State → Application Effect
 executes P x s = cond x.exec (met_kind P x x.kind s) (pushes x s)
 
@@ -120,9 +130,11 @@ executes P x s = cond x.exec (met_kind P x x.kind s) (pushes x s)
 abbrev pub with_failed : Object → List Object → List Object
 with_failed x xs = cond (nat_lt OPERAND_LIMIT (length xs)) (x ∷ drop 1 xs) (x ∷ xs)
 
+-- the place of an error in the dictionary of errors
 abbrev pub error_entry : ErrorName → Loc
 error_entry e = loc.Entry error_dict (key.Name (bytes_of e))
 
+-- a procedure or a string
 abbrev pub is_body_kind : Kind → Bool
 is_body_kind (kind.Array part packed) = true
 is_body_kind (kind.Str part) = true
@@ -133,6 +145,7 @@ abbrev pub entry_in : ErrorName → ℕ → Value → Object
 entry_in e frames (value.Object x) = cond (x.exec && is_body_kind x.kind && not (nat_lt frames FRAME_LIMIT)) (operator (default_entry e)) x
 entry_in e frames _ = operator (default_entry e)
 
+-- the object of a value
 abbrev pub item_in : Value → Object
 item_in (value.Object x) = x
 item_in _ = null_object

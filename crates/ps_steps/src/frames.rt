@@ -1,5 +1,6 @@
 //! What each kind of frame is to execution.
 ghost use Rattle.std.specs.Prelude.{◌≡◌, ◌<◌};
+ghost use Rattle.ps_names.specs.declared.places.TheConstants.{OPERATOR_COUNT};
 ghost use Rattle.ps_meaning.specs.Start.{operator};
 ghost use Rattle.ps_execution.specs.Frames as spec;
 ghost use Rattle.ps_execution.specs.Frames.{way, is_loop, show_way, is_kshow};
@@ -116,7 +117,7 @@ pub(crate) fn costs(frame: &Frame) -> bool
 }
 
 fn operator(place: u16) -> Object
-    requires { place < 239 }
+    requires { place < OPERATOR_COUNT }
     ensures { result ≡ operator place }
 {
     Object {

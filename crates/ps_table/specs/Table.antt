@@ -19,6 +19,7 @@ use Rattle.ps_execution.specs.Table.{Table}
 abbrev pub IsLawfulStep : Frame → (List ℕ → State → Ask) → Type 0
 IsLawfulStep f t = (text : List ℕ) (s : State) (W : World) → Fits text W (on (f ∷ s.frames) s) → Keeps text (names_in_turn (costs f)) s.frames (t text (on (f ∷ s.frames) s)) (on (f ∷ s.frames) s) W
 
+-- Each operator and each step is lawful, and leaving a show gives back registers that are sound.
 pub record KeptTable (T : Table) : Type 0 where
   pub steady : IsSteady T
   pub run : (n : ℕ) → IsLawfulIn (T.run n)
@@ -27,5 +28,6 @@ pub record KeptTable (T : Table) : Type 0 where
       → SoundRegisters (record W { size = record { width = (T.leave r s).regs.state.wide; height = (T.leave r s).regs.state.high } }) (T.leave r s).regs
       × ((T.leave r s).wipes ≡ false → W.size ≡ record { width = (T.leave r s).regs.state.wide; height = (T.leave r s).regs.state.high })
 
+-- such a table is lawful
 abbrev pub KeptTableLaw : Type 0
 KeptTableLaw = (T : Table) → KeptTable T → LawfulTable T
