@@ -1,77 +1,182 @@
 -- What is written for a job, by the ways in which it is answered.
-use Rattle.std.proofs.Common.{◌≡◌, ◌≢◌, ℕ, ◌<◌, ◌≤◌, Bool, true, false, List, [], ◌++◌, length, Option, Some, None, refl, ap, sym, subst, ◌∙◌, append-nil, arith}
-use Rattle.std.specs.Prelude.{nat_lt, not, ◌||◌, option_map, if◌then◌else◌}
+use Rattle.std.proofs.Common.{◌≡◌, ◌≢◌, ℕ, ◌<◌, ◌≤◌, Bool, true, false, List, [], ◌++◌, length, Option, Some, None, refl, ap, sym, subst, ◌∙◌, append-nil, arith, true≢false}
+use Rattle.std.specs.Prelude.{nat_lt, ◌||◌, option_map, IfSome, if◌then◌else◌, flat_map}
 use Rattle.std.proofs.lemmas.Bool.{lt-ltb}
 use Rattle.std.proofs.lemmas.Bool.Decides.{nat_tests}
-use Rattle.rip_ports.specs.Ports.{Appends, AppendsFront}
-use Rattle.rip_run.specs.Simple.{is_simple}
-use Rattle.rip_run.specs.Job.{is_not_yet, is_overflow, is_too_large, is_too_many, plain_result, result_of_command, result_of_read, result_of_run, result_of_sections, status_of, told}
-use Rattle.rip_run.specs.Section.{run_of}
-use Rattle.rip_run.specs.Status.{IsDefined, Writes}
-use Rattle.rip_run.specs.Texts.{not_yet_line, too_large_line, too_many_line}
-use Rattle.rip_run.specs.declared.word.Command.{Command}
+use Rattle.ps_execution.specs.Section.{End, Through, Stopped, Quitted, OutOfTurns}
+use Rattle.ps_execution.specs.Table.{Table}
+use Rattle.rip_ports.specs.Ports.{Appends, AppendsFront, Gives}
 use Rattle.dsc_split.specs.Sections.{page_count, sections_of}
-use Rattle.rip_run.specs.declared.section.Ending.{Ending}
-use Rattle.rip_run.specs.declared.section.Ending.TheVariants.{Through, Quit, Stopped, Overflows}
+use Rattle.rip_run.specs.Answers.{Answers}
+use Rattle.rip_run.specs.Job.{JobResult, is_refused, is_too_large, is_too_many, progress_of, result_of_command, result_of_progress, result_of_read, result_of_sections, status_of, told}
+use Rattle.rip_run.specs.Reading.{IsAtEnd}
+use Rattle.rip_run.specs.Status.{IsDefined, IsRun, Writes}
+use Rattle.rip_run.specs.Texts.{section_line, too_large_line, too_many_line}
+use Rattle.rip_run.specs.declared.word.Command.{Command}
+use Rattle.rip_run.specs.declared.word.Command.TheVariants.{Plain, Split}
 use Rattle.rip_run.specs.declared.status.Status.{Status}
 use Rattle.rip_run.specs.declared.status.Status.TheVariants as status
 
-pub of_not_yet : (text : List ℕ) → is_not_yet text ≡ true → plain_result text ≡ told not_yet_line status.NotYet
-of_not_yet text h = ap (λ b. if b then told not_yet_line status.NotYet else result_of_run (run_of text)) h
+-- ---- the result by cases
 
-pub of_not_simple : (text : List ℕ) → is_simple text ≡ false → plain_result text ≡ told not_yet_line status.NotYet
-of_not_simple text h = of_not_yet text (ap (λ s. not s || is_overflow (run_of text).ending) h)
+module _ (T : Table) (command : Command) (moment : ℕ) (job : List ℕ) where
+  of_too_large : 268435456 < length job → result_of_command T command moment job ≡ told too_large_line status.TooLarge
+  of_too_large h =
+      let large : is_too_large job ≡ true = lt-ltb 268435456 (length job) h in
+      ap (λ b. if b then told too_large_line status.TooLarge else result_of_read T command moment job) large
 
-or_true : (a : Bool) → a || true ≡ true
-or_true true = refl
-or_true false = refl
+  of_read : length job ≤ 268435456 → result_of_command T command moment job ≡ result_of_read T command moment job
+  of_read h =
+      let small : is_too_large job ≡ false = grind (arith, nat_tests) in
+      ap (λ b. if b then told too_large_line status.TooLarge else result_of_read T command moment job) small
 
-pub of_overflow : (text : List ℕ) → is_overflow (run_of text).ending ≡ true → plain_result text ≡ told not_yet_line status.NotYet
-of_overflow text h = of_not_yet text (ap (λ o. not (is_simple text) || o) h ∙ or_true (not (is_simple text)))
+  of_too_many : (count : ℕ) → page_count (sections_of job) ≡ count → 100000 < count → result_of_read T command moment job ≡ told (too_many_line count) (status.TooManyPages count)
+  of_too_many count e h =
+      let many : is_too_many count ≡ true = lt-ltb 100000 count h in
+      ap (λ n. if is_too_many n then told (too_many_line n) (status.TooManyPages n) else result_of_sections T command moment job) e
+      ∙ ap (λ b. if b then told (too_many_line count) (status.TooManyPages count) else result_of_sections T command moment job) many
 
-pub of_run : (text : List ℕ) → is_simple text ≡ true → is_overflow (run_of text).ending ≡ false →
-    plain_result text ≡ result_of_run (run_of text)
-of_run text s o =
-    let known : is_not_yet text ≡ false = ap (λ b. not b || is_overflow (run_of text).ending) s ∙ o in
-    ap (λ b. if b then told not_yet_line status.NotYet else result_of_run (run_of text)) known
+  of_sections : page_count (sections_of job) ≤ 100000 → result_of_read T command moment job ≡ result_of_sections T command moment job
+  of_sections h =
+      let n = page_count (sections_of job) in
+      let few : is_too_many n ≡ false = grind (arith, nat_tests) in
+      ap (λ b. if b then told (too_many_line n) (status.TooManyPages n) else result_of_sections T command moment job) few
 
-pub of_too_large : (command : Command) (job : List ℕ) → 268435456 < length job →
-    result_of_command command job ≡ told too_large_line status.TooLarge
-of_too_large command job h =
-    let large : is_too_large job ≡ true = lt-ltb 268435456 (length job) h in
-    ap (λ b. if b then told too_large_line status.TooLarge else result_of_read command job) large
-
-pub of_read : (command : Command) (job : List ℕ) → length job ≤ 268435456 → result_of_command command job ≡ result_of_read command job
-of_read command job h =
-    let small : is_too_large job ≡ false = grind (arith, nat_tests) in
-    ap (λ b. if b then told too_large_line status.TooLarge else result_of_read command job) small
-
-pub of_too_many : (command : Command) (job : List ℕ) (count : ℕ) → page_count (sections_of job) ≡ count → 100000 < count →
-    result_of_read command job ≡ told (too_many_line count) (status.TooManyPages count)
-of_too_many command job count e h =
-    let many : is_too_many count ≡ true = lt-ltb 100000 count h in
-    ap (λ n. if is_too_many n then told (too_many_line n) (status.TooManyPages n) else result_of_sections command job (sections_of job)) e
-    ∙ ap (λ b. if b then told (too_many_line count) (status.TooManyPages count) else result_of_sections command job (sections_of job)) many
-
-pub of_sections : (command : Command) (job : List ℕ) → page_count (sections_of job) ≤ 100000 →
-    result_of_read command job ≡ result_of_sections command job (sections_of job)
-of_sections command job h =
-    let n = page_count (sections_of job) in
-    let few : is_too_many n ≡ false = grind (arith, nat_tests) in
-    ap (λ b. if b then told (too_many_line n) (status.TooManyPages n) else result_of_sections command job (sections_of job)) few
-
-pub defined_status : (e : Ending) → IsDefined (status_of e)
-defined_status (Stopped _ _) = tt
-defined_status Through = tt
-defined_status Quit = tt
-defined_status Overflows = tt
+-- ---- nothing written
 
 pub nothing_appended : (bytes : List ℕ) (held : Option (List ℕ)) → AppendsFront bytes held held
 nothing_appended bytes None = (0, omega arith, refl)
 nothing_appended bytes (Some before) = (0, omega arith, ap Some (sym (append-nil before)))
 
-pub run_status : (e : Ending) → status_of e ≢ status.Usage
-run_status (Stopped _ _) h = cc
-run_status Through h = cc
-run_status Quit h = cc
-run_status Overflows h = cc
+appended_none : (held : Option (List ℕ)) → Appends [] held held
+appended_none None = refl
+appended_none (Some bytes) = ap Some (sym (append-nil bytes))
+
+pub written_none : (answer : Status) (held : Option (List ℕ)) → Writes answer [] held held
+written_none (status.Done _) held = appended_none held
+written_none (status.JobError _) held = appended_none held
+written_none status.Usage held = appended_none held
+written_none status.TooLarge held = appended_none held
+written_none (status.TooManyPages _) held = appended_none held
+written_none status.ReadFault held = refl
+written_none status.WriteFault held = nothing_appended [] held
+written_none status.NoMemory held = nothing_appended [] held
+
+pub fault_answers : (r : JobResult) (p b : Option (List ℕ)) → Answers r status.ReadFault p p b b
+fault_answers r p b = record { status = λ d. absurd d; pages = refl; back = refl }
+
+pub wanting_answers : (r : JobResult) (p b : Option (List ℕ)) → Answers r status.NoMemory p p b b
+wanting_answers r p b = record { status = λ d. absurd d; pages = nothing_appended r.pages p; back = nothing_appended r.back b }
+
+-- ---- what is told on the back channel alone
+
+pub told_answers : (text : List ℕ) (result answer : Status) (p b c : Option (List ℕ)) → Writes answer text b c → (IsDefined answer → answer ≡ result) → Answers (told text result) answer p p b c
+told_answers text result answer p b c w s = record { status = s; pages = written_none answer p; back = w }
+
+-- a fault of a sink is no result
+pub defined_only : (answer result : Status) → (answer ≢ status.WriteFault → answer ≡ result) → IsDefined answer → answer ≡ result
+defined_only answer result h d = h (λ e. subst IsDefined e d)
+
+pub too_many_answers : (T : Table) (command : Command) (moment : ℕ) (job : List ℕ) (count : ℕ) (answer : Status) (p b c : Option (List ℕ))
+    → page_count (sections_of job) ≡ count → 100000 < count → Writes answer (too_many_line count) b c → (IsDefined answer → answer ≡ status.TooManyPages count)
+    → Answers (result_of_read T command moment job) answer p p b c
+too_many_answers T command moment job count answer p b c e h w s =
+    subst (λ r. Answers r answer p p b c) (sym (of_too_many T command moment job count e h)) (told_answers (too_many_line count) (status.TooManyPages count) answer p b c w s)
+
+pub split_answers : (T : Table) (moment : ℕ) (job : List ℕ) (answer : Status) (p b c : Option (List ℕ))
+    → page_count (sections_of job) ≤ 100000 → Writes answer (flat_map section_line (sections_of job)) b c → (IsDefined answer → answer ≡ status.Done 0)
+    → Answers (result_of_read T Split moment job) answer p p b c
+split_answers T moment job answer p b c h w s =
+    subst (λ r. Answers r answer p p b c) (sym (of_sections T Split moment job h)) (told_answers (flat_map section_line (sections_of job)) (status.Done 0) answer p b c w s)
+
+pub plain_answers : (T : Table) (moment : ℕ) (job : List ℕ) (answer : Status) (p q b c : Option (List ℕ))
+    → page_count (sections_of job) ≤ 100000 → Answers (result_of_progress (progress_of T moment job)) answer p q b c
+    → Answers (result_of_read T Plain moment job) answer p q b c
+plain_answers T moment job answer p q b c h a = subst (λ r. Answers r answer p q b c) (sym (of_sections T Plain moment job h)) a
+
+-- ---- what was read
+
+-- what was read is what the source had
+all_read : (items bytes : List ℕ) (after : Option (List ℕ)) → Gives items (Some bytes) after → IsAtEnd after → bytes ≡ items
+all_read items bytes None g e = cc
+all_read items bytes (Some rest) g e =
+    let whole : bytes ≡ items ++ rest = cc in
+    whole ∙ ap (λ r. items ++ r) e ∙ append-nil items
+
+pub read_answers : (T : Table) (command : Command) (moment : ℕ) (items : List ℕ) (start after : Option (List ℕ)) (answer : Status) (p q b c : Option (List ℕ))
+    → Gives items start after → IsAtEnd after → length items ≤ 268435456 → Answers (result_of_read T command moment items) answer p q b c
+    → IfSome start (λ job. Answers (result_of_command T command moment job) answer p q b c)
+read_answers T command moment items None after answer p q b c g e l a = tt
+read_answers T command moment items (Some bytes) after answer p q b c g e l a =
+    subst (λ job. Answers (result_of_command T command moment job) answer p q b c) (sym (all_read items bytes after g e))
+    (subst (λ r. Answers r answer p q b c) (sym (of_read T command moment items l)) a)
+
+pub too_large_answers : (T : Table) (command : Command) (moment : ℕ) (start : Option (List ℕ)) (Q : List ℕ → Type 0) (answer : Status) (p b c : Option (List ℕ))
+    → IfSome start (λ bytes. (268435456 < length bytes) × Q bytes) → Writes answer too_large_line b c → (answer ≢ status.WriteFault → answer ≡ status.TooLarge)
+    → IfSome start (λ job. Answers (result_of_command T command moment job) answer p p b c)
+too_large_answers T command moment None Q answer p b c h w s = tt
+too_large_answers T command moment (Some job) Q answer p b c h w s =
+    subst (λ r. Answers r answer p p b c) (sym (of_too_large T command moment job h.0))
+    (told_answers too_large_line status.TooLarge answer p b c w (defined_only answer status.TooLarge s))
+
+pub whatever_read : (start : Option (List ℕ)) (F : List ℕ → Type 0) → ((job : List ℕ) → F job) → IfSome start F
+whatever_read None F h = tt
+whatever_read (Some job) F h = h job
+
+-- ---- which answers come when
+
+progress_runs : (e : End) → IsRun (status_of e)
+progress_runs Through = tt
+progress_runs Stopped = tt
+progress_runs Quitted = tt
+progress_runs OutOfTurns = tt
+
+sections_run : (T : Table) (command : Command) (moment : ℕ) (job : List ℕ) → IsRun (result_of_sections T command moment job).status
+sections_run T Plain moment job = progress_runs (progress_of T moment job).end
+sections_run T Split moment job = tt
+
+-- a job that isn't refused is run
+pub runs_unrefused : (T : Table) (command : Command) (moment : ℕ) (job : List ℕ) → is_refused job ≡ false → IsRun (result_of_command T command moment job).status
+runs_unrefused T command moment job h = go (is_too_large job) (is_too_many (page_count (sections_of job))) h
+  where
+    go : (a b : Bool) → a || b ≡ false → IsRun (if a then told too_large_line status.TooLarge else
+        (if b then told (too_many_line (page_count (sections_of job))) (status.TooManyPages (page_count (sections_of job))) else result_of_sections T command moment job)).status
+    go true b e = absurd (true≢false e)
+    go false true e = absurd (true≢false e)
+    go false false e = sections_run T command moment job
+
+not_large : (s : Status) → IsRun s → s ≡ status.TooLarge → ⊥
+not_large s r e = subst IsRun e r
+
+not_many : (s : Status) (count : ℕ) → IsRun s → s ≡ status.TooManyPages count → ⊥
+not_many s count r e = subst IsRun e r
+
+module _ (T : Table) (command : Command) (moment : ℕ) (job : List ℕ) where
+  pub large_only : (result_of_command T command moment job).status ≡ status.TooLarge → 268435456 < length job
+  large_only h = go (is_too_large job) refl h
+    where
+      read : (b : Bool) (n : ℕ) → (if b then told (too_many_line n) (status.TooManyPages n) else result_of_sections T command moment job).status ≡ status.TooLarge → ⊥
+      read true n e = cc
+      read false n e = not_large _ (sections_run T command moment job) e
+
+      go : (a : Bool) → is_too_large job ≡ a → (if a then told too_large_line status.TooLarge else result_of_read T command moment job).status ≡ status.TooLarge → 268435456 < length job
+      go true e s = grind (arith, nat_tests)
+      go false e s = absurd (read (is_too_many (page_count (sections_of job))) (page_count (sections_of job)) s)
+
+  pub many_only : (count : ℕ) → (result_of_command T command moment job).status ≡ status.TooManyPages count → (count ≡ page_count (sections_of job)) × (100000 < count)
+  many_only count h = go (is_too_large job) h
+    where
+      more : (n : ℕ) → is_too_many n ≡ true → 100000 < n
+      more n e = grind (arith, nat_tests)
+
+      read : (b : Bool) → is_too_many (page_count (sections_of job)) ≡ b
+          → (if b then told (too_many_line (page_count (sections_of job))) (status.TooManyPages (page_count (sections_of job))) else result_of_sections T command moment job).status ≡ status.TooManyPages count
+          → (count ≡ page_count (sections_of job)) × (100000 < count)
+      read true e s =
+          let n : page_count (sections_of job) ≡ count = cc in
+          (sym n, subst (λ m. 100000 < m) n (more (page_count (sections_of job)) e))
+      read false e s = absurd (not_many _ count (sections_run T command moment job) s)
+
+      go : (a : Bool) → (if a then told too_large_line status.TooLarge else result_of_read T command moment job).status ≡ status.TooManyPages count → (count ≡ page_count (sections_of job)) × (100000 < count)
+      go true s = absurd cc
+      go false s = read (is_too_many (page_count (sections_of job))) refl s

@@ -2,6 +2,3 @@ mod Answering
 mod Giving
 mod Pieces
 mod Sinks
-mod Tokens
-mod PlainLemmas
-mod PlainTokens

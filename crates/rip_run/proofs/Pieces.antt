@@ -6,7 +6,6 @@ use Rattle.std.proofs.lemmas.Bool.Decides.{nat_tests}
 use Rattle.std.proofs.lemmas.Grind.{flat_map-append}
 use Rattle.std.proofs.lemmas.List.{take_more}
 use Rattle.dsc_split.specs.declared.section.Section.{Section}
-use Rattle.rip_run.specs.Section.{has_room}
 use Rattle.rip_run.specs.Texts.{section_line}
 
 pub two_pieces : (t a b x y : List ℕ) → x ≡ t ++ a → y ≡ x ++ b → y ≡ t ++ (a ++ b)
@@ -14,18 +13,6 @@ two_pieces t a b x y p q = q ∙ ap (λ s. s ++ b) p ∙ append_assoc t a b
 
 pub three_pieces : (t a b c x y z : List ℕ) → x ≡ t ++ a → y ≡ x ++ b → z ≡ y ++ c → z ≡ t ++ (a ++ b ++ c)
 three_pieces t a b c x y z p q r = two_pieces t (a ++ b) c y z (two_pieces t a b x y p q) r
-
-pub no_piece : (t : List ℕ) → t ≡ t ++ []
-no_piece t = sym (append-nil t)
-
--- a line fits where its text is shorter than the room
-pub line_fits : (told : ℕ) (text : List ℕ) → length text < 16777216 - told → has_room told (text ++ 10 ∷ []) ≡ true
-line_fits told text h = le-leb (told + length (text ++ 10 ∷ [])) 16777216 (rw length-append (omega arith))
-
-pub line_exceeds : (told : ℕ) (text : List ℕ) → 16777216 - told ≤ length text → has_room told (text ++ 10 ∷ []) ≡ false
-line_exceeds told text h =
-    let more : 16777216 < told + length (text ++ 10 ∷ []) = rw length-append (omega arith) in
-    grind (arith, nat_tests)
 
 -- one more section was listed
 pub listed : (sections : List Section) (k : ℕ) (section : Section) (text line after : List ℕ) →

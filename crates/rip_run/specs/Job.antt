@@ -1,17 +1,16 @@
 -- The result of a job: what is written for it, and how the call ends.
-use Rattle.std.specs.Prelude.{◌≡◌, ℕ, Bool, true, false, not, ◌||◌, List, [], ◌∷◌, ◌++◌, flat_map, length, nat_lt, Option, Some, None, if◌then◌else◌}
-use Rattle.dsc_split.specs.Sections.{page_count, sections_of, text_of}
-use Rattle.dsc_split.specs.declared.section.Section.{Section}
-use Rattle.ps_names.specs.ErrorName.{bytes_of}
-use Rattle.rip_run.specs.Simple.{is_simple}
-use Rattle.rip_run.specs.Section.{run_of}
-use Rattle.rip_run.specs.Texts.{done_line, line_ended, no_string_value, not_yet_line, report_text, section_line, too_large_line, too_many_line, usage_line}
+use Rattle.std.specs.Prelude.{ℕ, Bool, false, ◌||◌, List, [], ◌++◌, flat_map, length, nat_lt, Option, Some, None, if◌then◌else◌}
+use Rattle.ps_objects.specs.declared.settings.Settings.{Settings}
+use Rattle.ps_execution.specs.Section.{End, Through, Stopped, Quitted, OutOfTurns}
+use Rattle.ps_execution.specs.Table.{Table}
+use Rattle.dsc_split.specs.Sections.{page_count, sections_of}
+use Rattle.out_writers.specs.Texts.{pictures}
+use Rattle.section_sequence.specs.Sequence.{Progress, job_of, sequence_meaning}
+use Rattle.operator_table.specs.Operators.{table}
 use Rattle.rip_run.specs.Words.{command_of}
+use Rattle.rip_run.specs.Texts.{done_line, section_line, too_large_line, too_many_line, usage_line}
 use Rattle.rip_run.specs.declared.word.Command.{Command}
 use Rattle.rip_run.specs.declared.word.Command.TheVariants.{Plain, Split}
-use Rattle.rip_run.specs.declared.section.Ending.{Ending}
-use Rattle.rip_run.specs.declared.section.Ending.TheVariants.{Stopped, Overflows}
-use Rattle.rip_run.specs.declared.section.Run.{Run}
 use Rattle.rip_run.specs.declared.status.Status.{Status}
 use Rattle.rip_run.specs.declared.status.Status.TheVariants as status
 
@@ -25,82 +24,61 @@ pub record JobResult : Type 0 where
 abbrev pub told : List ℕ → Status → JobResult
 told text answer = record { pages = []; back = text; status = answer }
 
--- a sum or difference left 32 bits
-abbrev pub is_overflow : Ending → Bool
-is_overflow Overflows = true
-is_overflow _ = false
+-- 72 dots per inch, on paper of 612 by 792 pixels
+abbrev pub default_settings : Settings
+default_settings = record { dpi = 72; width = 612; height = 792; keep = false }
 
--- what is not interpreted yet: a text that is not simple, and one whose run meets a sum or difference that leaves 32 bits
-abbrev pub is_not_yet : List ℕ → Bool
-is_not_yet text = not (is_simple text) || is_overflow (run_of text).ending
+-- a stop at a section's top and spent turns make a job error
+abbrev pub status_of : End → Status
+status_of Through = status.Done 0
+status_of Stopped = status.JobError 0
+status_of Quitted = status.Done 0
+status_of OutOfTurns = status.JobError 0
 
--- the plain text of the object that was executed: that of the token, or none
-abbrev pub command_text : Option (List ℕ) → List ℕ
-command_text None = no_string_value
-command_text (Some text) = text
+-- what was said, and the closing line
+abbrev pub closed_text : Progress → List ℕ
+closed_text p = p.text ++ done_line (length p.papers)
 
--- what is reported at a section's end
-abbrev pub report_of : Ending → List ℕ
-report_of (Stopped error command) = report_text (bytes_of error) (command_text command)
-report_of _ = []
+-- what sections have come to: their pictures, their text with the closing line, and how the last that ran has ended
+abbrev pub result_of_progress : Progress → JobResult
+result_of_progress p = record { pages = pictures p.papers; back = closed_text p; status = status_of p.end }
 
--- a section that ends by an error makes a job error
-abbrev pub status_of : Ending → Status
-status_of (Stopped _ _) = status.JobError 0
-status_of _ = status.Done 0
-
--- a run of one section: its messages, its report and the closing line
-abbrev pub result_of_run : Run → JobResult
-result_of_run run = told (line_ended run.said ++ report_of run.ending ++ done_line 0) (status_of run.ending)
-
--- the text of the first section, the prolog; a job without header is one prolog
-abbrev pub prolog_text : List ℕ → List Section → List ℕ
-prolog_text job [] = []
-prolog_text job (prolog ∷ _) = text_of job prolog
-
--- the result of a prolog's text under `plain`
-abbrev pub plain_result : List ℕ → JobResult
-plain_result text = if is_not_yet text then told not_yet_line status.NotYet else result_of_run (run_of text)
+-- the sections of a job in sequence
+abbrev pub progress_of : Table → ℕ → List ℕ → Progress
+progress_of T moment job = sequence_meaning (job_of T default_settings moment job) (sections_of job)
 
 -- what a command makes of the sections of a job
-abbrev pub result_of_sections : Command → List ℕ → List Section → JobResult
-result_of_sections Plain job sections = plain_result (prolog_text job sections)
-result_of_sections Split job sections = told (flat_map section_line sections) (status.Done 0)
+abbrev pub result_of_sections : Table → Command → ℕ → List ℕ → JobResult
+result_of_sections T Plain moment job = result_of_progress (progress_of T moment job)
+result_of_sections T Split moment job = told (flat_map section_line (sections_of job)) (status.Done 0)
 
 -- more than 100,000 pages are too many
 abbrev pub is_too_many : ℕ → Bool
 is_too_many count = nat_lt 100000 count
 
 -- the result of a job that is no larger than a job may be
-abbrev pub result_of_read : Command → List ℕ → JobResult
-result_of_read command job =
-    let sections = sections_of job in
-    let count = page_count sections in
-    if is_too_many count then told (too_many_line count) (status.TooManyPages count) else result_of_sections command job sections
+abbrev pub result_of_read : Table → Command → ℕ → List ℕ → JobResult
+result_of_read T command moment job =
+    let count = page_count (sections_of job) in
+    if is_too_many count then told (too_many_line count) (status.TooManyPages count) else result_of_sections T command moment job
 
 -- more than 268,435,456 bytes are too many
 abbrev pub is_too_large : List ℕ → Bool
 is_too_large job = nat_lt 268435456 (length job)
 
 -- what a command makes of a job of any length
-abbrev pub result_of_command : Command → List ℕ → JobResult
-result_of_command command job = if is_too_large job then told too_large_line status.TooLarge else result_of_read command job
+abbrev pub result_of_command : Table → Command → ℕ → List ℕ → JobResult
+result_of_command T command moment job = if is_too_large job then told too_large_line status.TooLarge else result_of_read T command moment job
 
 -- what the words make of a job
-abbrev pub result_of_words : Option Command → List ℕ → JobResult
-result_of_words None job = told usage_line status.Usage
-result_of_words (Some command) job = result_of_command command job
+abbrev pub result_of_words : Table → Option Command → ℕ → List ℕ → JobResult
+result_of_words T None moment job = told usage_line status.Usage
+result_of_words T (Some command) moment job = result_of_command T command moment job
 
--- the result of words, a moment and a job
+-- the result of a job, by the table of all operators that are there
 abbrev pub job_result : List (List ℕ) → ℕ → List ℕ → JobResult
-job_result words moment job = result_of_words (command_of words) job
+job_result words moment job = result_of_words table (command_of words) moment job
 
--- the command takes the prolog's text
-abbrev pub is_taken : Command → List ℕ → Bool
-is_taken Plain text = not (is_not_yet text)
-is_taken Split text = true
-
--- the job is refused: it is too large, has too many pages, or is not interpreted yet
-abbrev pub is_refused : Command → List ℕ → Bool
-is_refused command job =
-    is_too_large job || is_too_many (page_count (sections_of job)) || not (is_taken command (prolog_text job (sections_of job)))
+-- the job is refused: it is too large, or has too many pages
+abbrev pub is_refused : List ℕ → Bool
+is_refused job = is_too_large job || is_too_many (page_count (sections_of job))

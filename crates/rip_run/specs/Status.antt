@@ -14,7 +14,6 @@ exit_of (status.TooManyPages _) = 3
 exit_of status.ReadFault = 4
 exit_of status.WriteFault = 5
 exit_of status.NoMemory = 6
-exit_of status.NotYet = 7
 
 -- no fault and no want of memory: the answer is the job's result
 abbrev pub IsDefined : Status → Type 0
@@ -34,7 +33,6 @@ abbrev pub IsAfterReading : Status → Type 0
 IsAfterReading (status.Done _) = Unit {0}
 IsAfterReading (status.JobError _) = Unit {0}
 IsAfterReading (status.TooManyPages _) = Unit {0}
-IsAfterReading status.NotYet = Unit {0}
 IsAfterReading _ = ⊥
 
 -- the job was run to its end, or memory ran out

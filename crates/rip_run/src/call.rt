@@ -15,6 +15,7 @@ use crate::status::Status;
 use crate::texts::usage_line;
 use crate::word::{Word, command_of};
 use dsc_split::MAX_PAGES;
+use operator_table::AllOperators;
 use rip_ports::{Sink, Source};
 use std::alloc::Global;
 
@@ -23,7 +24,6 @@ use std::alloc::Global;
 /// The words are the one word `plain` or `split`. The job is read to its end before anything is done with it; one of
 /// more than 268,435,456 bytes is refused as soon as they are passed, and one of more than 100,000 pages before any is
 /// run. Where memory runs out or a sink fails, each sink holds a front of the bytes that it would have been given.
-#[tactic(auto, using(crate::proofs::Sinks::pages_kept))]
 pub fn rip_plain<S: Source, P: Sink, B: Sink>(
     alloc: Global,
     words: &[Word],
@@ -42,7 +42,7 @@ pub fn rip_plain<S: Source, P: Sink, B: Sink>(
         Writes result (job_result words.now moment job).back
         (B.holds back.old) (B.holds back.new)) }
 
-    // A job that was run, or refused for its pages or as not interpreted yet, was read to its end.
+    // A job that was run, or refused for its pages, was read to its end.
     ensures read { IsAfterReading result → IsAtEnd (S.left source.new) }
 
     // Words outside the grammar are refused before anything is read, and no others are.
@@ -67,13 +67,13 @@ pub fn rip_plain<S: Source, P: Sink, B: Sink>(
     // Words in the grammar, a job that is not refused and no fault that rose: the job is run, or memory runs out.
     ensures complete { (command : Command) (job : List ℕ) →
         command_of words.now ≡ Some command → S.left source.old ≡ Some job →
-        is_refused command job ≡ false →
+        is_refused job ≡ false →
         ¬ HasRisen (S.faults source.old) (S.faults source.new) →
         ¬ HasRisen (P.faults pages.old) (P.faults pages.new) →
         ¬ HasRisen (B.faults back.old) (B.faults back.new) → IsRunOrWanting result }
 {
     match command_of(words) {
-        Some(command) => answer(alloc, command, source, back),
+        Some(command) => answer::<S, P, B, AllOperators>(alloc, command, moment, source, pages, back),
         None => write(back, usage_line(), Status::Usage),
     }
 }

@@ -3,11 +3,8 @@
 
 mod answer;
 mod call;
-mod operands;
-mod operator;
+mod plain;
 mod reading;
-mod section;
-mod simple_texts;
 mod status;
 #[cfg(test)]
 mod tests;

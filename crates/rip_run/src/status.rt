@@ -20,8 +20,6 @@ pub enum Status {
     WriteFault,
     /// Memory ran out.
     NoMemory,
-    /// The job is not interpreted yet.
-    NotYet,
 }
 
 impl Status {
@@ -39,7 +37,6 @@ impl Status {
             Status::ReadFault => 4,
             Status::WriteFault => 5,
             Status::NoMemory => 6,
-            Status::NotYet => 7,
         }
     }
 }

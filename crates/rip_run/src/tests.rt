@@ -1,4 +1,3 @@
-use crate::simple_texts::simple;
 use crate::{Status, Word, rip_plain};
 use copy_lists::NoMemory;
 use rip_ports::{Failed, MemSink, MemSource, Source};
@@ -6,18 +5,9 @@ use std::alloc::Global;
 
 const DONE: &str = "%%[ done: 0 shown ]%%\n";
 
-const NOT_YET: &str = "%%[ job refused: not yet ]%%\n";
-
 const USAGE: &str = "%%[ usage: rip_main render, plain, spec, split or sample ]%%\n";
 
-const UNDEFINED: &str =
-    "%%[ Error: undefined; OffendingCommand: foo ]%%\n%%[ Flushing: rest of job (to end-of-file) will be ignored ]%%\n%%[ done: 0 shown ]%%\n";
-
-const UNDERFLOW: &str =
-    "%%[ Error: stackunderflow; OffendingCommand: add ]%%\n%%[ Flushing: rest of job (to end-of-file) will be ignored ]%%\n%%[ done: 0 shown ]%%\n";
-
-const SYNTAX: &str =
-    "%%[ Error: syntaxerror; OffendingCommand: --nostringval-- ]%%\n%%[ Flushing: rest of job (to end-of-file) will be ignored ]%%\n%%[ done: 0 shown ]%%\n";
+const FLUSHING: &str = "%%[ Flushing: rest of job (to end-of-file) will be ignored ]%%\n";
 
 /// What a call answered and what it wrote.
 #[derive(Drop)]
@@ -82,39 +72,73 @@ fn call(
     })
 }
 
+/// What the back channel gets of a job that says this, and is stopped by this error of this command.
+fn told(alloc: Global, said: &str, stopped: Option<(&str, &str)>) -> Result<Vec<u8>, NoMemory> {
+    let mut text = Vec::from_slice(alloc, said.as_bytes())?;
+    if let Some((error, command)) = stopped {
+        let report = format!(in alloc; "%%[ Error: {error}; OffendingCommand: {command} ]%%\n")?;
+        text.extend_from_slice(report.as_bytes())?;
+        text.extend_from_slice(FLUSHING.as_bytes())?;
+    }
+    text.extend_from_slice(DONE.as_bytes())?;
+    Ok(text)
+}
+
 #[test]
 fn answers_jobs(rt: HostRuntime) -> Result<(), NoMemory> {
-    let done = Status::Done { reruns: 0 };
-    let stopped = Status::JobError { reruns: 0 };
-    for (job, status, back) in [
-        ("", done, DONE),
-        ("1 2 add =", done, "3\n%%[ done: 0 shown ]%%\n"),
-        ("foo", stopped, UNDEFINED),
-        ("1 add", stopped, UNDERFLOW),
-        ("1 )", stopped, SYNTAX),
-        ("1 }", stopped, SYNTAX),
-        ("7 dup sub = quit foo", done, "0\n%%[ done: 0 shown ]%%\n"),
-        ("3 10 exch sub = % (\n", done, "7\n%%[ done: 0 shown ]%%\n"),
+    let alloc = rt.alloc();
+    for (job, said, stopped) in [
+        ("", "", None),
+        ("1 2 add =", "3\n", None),
+        ("foo", "", Some(("undefined", "foo"))),
+        ("1 add", "", Some(("stackunderflow", "add"))),
+        ("1 )", "", Some(("syntaxerror", "--nostringval--"))),
+        ("1 = { 2", "1\n", Some(("syntaxerror", "--nostringval--"))),
+        ("3 10 exch sub = % (\n", "7\n", None),
+        ("2147483647 1 add =", "2147483648.0\n", None),
+        ("1 0 div", "", Some(("undefinedresult", "div"))),
+        ("\u{4}1 =\n\u{4}", "1\n", None),
+        ("16#FF = 1.5 = (a) = /b =", "255\n1.5\na\nb\n", None),
+        ("(abc) print", "abc\n", None),
+        ("/f { dup mul = } def 5 f", "25\n", None),
         (
-            "-2147483648 = 1 pop",
-            done,
-            "-2147483648\n%%[ done: 0 shown ]%%\n",
+            "errordict /undefined { pop (met) = } put foo 3 =",
+            "met\n3\n",
+            None,
         ),
-        ("2147483647 1 add", Status::NotYet, NOT_YET),
-        ("-2147483648 1 sub", Status::NotYet, NOT_YET),
-        ("(a) =", Status::NotYet, NOT_YET),
-        ("\u{4}1 =\n\u{4}", done, "1\n%%[ done: 0 shown ]%%\n"),
-        ("1 \u{4} 2", Status::NotYet, NOT_YET),
-        ("1.5", Status::NotYet, NOT_YET),
-        ("16#FF", Status::NotYet, NOT_YET),
-        ("2147483648", Status::NotYet, NOT_YET),
-        ("%!PS-Adobe-3.0", Status::NotYet, NOT_YET),
+        (
+            "%!PS-Adobe-3.0\n/x 1 def\n%%Page: 1 1\n/x x 1 add def\n%%Page: 2 2\nx =\n%%Trailer\n(end) print",
+            "2\nend\n",
+            None,
+        ),
+        (
+            "%!PS-Adobe-3.0\n%%Page: 1 1\n1 = bar\n%%Page: 2 2\n2 =\n",
+            "1\n",
+            Some(("undefined", "bar")),
+        ),
     ] {
-        let call = call(rt.alloc(), &["plain"], job.as_bytes(), &[], &[])?;
+        let call = call(alloc, &["plain"], job.as_bytes(), &[], &[])?;
+        let status = match stopped {
+            Some(_) => Status::JobError { reruns: 0 },
+            None => Status::Done { reruns: 0 },
+        };
+        let told = told(alloc, said, stopped)?;
         assert_eq!(rt; call.status, status, "at {job}");
-        assert_eq!(rt; call.back.bytes(), back.as_bytes(), "at {job}");
+        assert_eq!(rt; call.back.bytes(), told.as_slice(), "at {job}");
         assert!(rt; call.pages.bytes().is_empty(), "at {job}");
     }
+    Ok(())
+}
+
+/// A section has 20,000,000 turns, and a procedure that ends with its own name holds no frame.
+#[test]
+fn spends_the_turns(rt: HostRuntime) -> Result<(), NoMemory> {
+    let alloc = rt.alloc();
+    let job = b"1 = /f { f } def f 2 =";
+    let call = call(alloc, &["plain"], job, &[], &[])?;
+    let told = told(alloc, "1\n", Some(("timeout", "--nostringval--")))?;
+    assert_eq!(rt; call.status, Status::JobError { reruns: 0 });
+    assert_eq!(rt; call.back.bytes(), told.as_slice());
     Ok(())
 }
 
@@ -149,7 +173,6 @@ fn answers_words_and_faults(rt: HostRuntime) -> Result<(), NoMemory> {
         (Status::ReadFault, 4),
         (Status::WriteFault, 5),
         (Status::NoMemory, 6),
-        (Status::NotYet, 7),
     ] {
         assert_eq!(rt; status.exit(), exit);
     }
@@ -211,52 +234,4 @@ fn refuses_large_jobs(rt: HostRuntime) -> Result<(), NoMemory> {
         assert_eq!(rt; source.left, unread);
     }
     Ok(())
-}
-
-#[test]
-fn some_texts_are_simple(rt: HostRuntime) {
-    let simple_texts: [&[u8]; 13] = [
-        b"%!PS",
-        b"a % ( [ 1.5 \n b",
-        b"1#0",
-        b"37#1",
-        b"100#1",
-        b"2#2",
-        b"16#",
-        b"#1",
-        b".",
-        b"1.2.3",
-        b"1e",
-        b"e5",
-        &[b'a'; 127],
-    ];
-    for text in simple_texts {
-        assert!(rt; simple(text));
-    }
-    let others: [&[u8]; 21] = [
-        b"%!PS-Adobe-3.0",
-        b"(a) =",
-        b"a/b",
-        b"<",
-        b">",
-        b"[",
-        b"]",
-        b"{",
-        b"\x04",
-        b"1.",
-        b".5",
-        b"-.5e-3",
-        b"1e400",
-        b"+5E+3",
-        b"16#FF",
-        b"2#1",
-        b"36#z",
-        b"2147483648",
-        b"-2147483649",
-        b"99999999999999999999",
-        &[b'a'; 128],
-    ];
-    for text in others {
-        assert!(rt; !simple(text));
-    }
 }

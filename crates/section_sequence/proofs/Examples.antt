@@ -7,7 +7,8 @@ use Rattle.ps_kinds.specs.declared.regs.Regs.{Regs}
 use Rattle.ps_memory.specs.Memory.{Memory, picture, message, blank}
 use Rattle.ps_execution.specs.Section.{Told, Through, Stopped, Quitted, OutOfTurns}
 use Rattle.dsc_split.specs.declared.section.Section.{Section}
-use Rattle.section_sequence.specs.SectionText.{papers_of, section_text}
+use Rattle.ps_machine.specs.Lines.{papers_of}
+use Rattle.ps_machine.specs.SectionText.{section_text}
 use Rattle.section_sequence.specs.Sequence.{Job, stood, sequence_from}
 
 abbrev told_of : Kind → Told

@@ -1,4 +1,3 @@
-pub mod Reports
 pub mod Sections
 pub mod Numbers
 pub mod Standing

@@ -7,7 +7,8 @@ use Rattle.ps_execution.specs.Section.{End, Through, Stopped, Quitted, OutOfTurn
 use Rattle.dsc_split.specs.Sections.{sections_of, text_of}
 use Rattle.dsc_split.specs.declared.section.Section.{Section}
 use Rattle.dsc_split.proofs.Laws.{numbered}
-use Rattle.section_sequence.specs.Between.{MayRun, AreInOrder, InOrderLaw, SequenceLaw, JobLaw}
+use Rattle.ps_machine.specs.Starting.{MayRun}
+use Rattle.section_sequence.specs.Between.{AreInOrder, InOrderLaw, SequenceLaw, JobLaw}
 use Rattle.section_sequence.specs.Sequence.{Job, Progress, section_run, after_end, sequence_from, begun}
 use Rattle.section_sequence.proofs.Sections.{starts_law, ends_law, later_may}
 

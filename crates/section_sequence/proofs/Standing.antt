@@ -1,24 +1,29 @@
 -- What the loop over the sections keeps.
-use Rattle.std.proofs.Common.{◌≡◌, ◌≢◌, ℕ, suc, ◌≤◌, ◌+◌, List, [], ◌∷◌, ◌++◌, length, Result, Ok, Err, refl, sym, ap, ◌∙◌, subst, append-nil, append_assoc, arith, length-append}
-use Rattle.std.specs.Prelude.{OnErr}
+use Rattle.std.proofs.Common.{◌≡◌, ◌≢◌, ℕ, suc, ◌≤◌, ◌+◌, List, [], ◌∷◌, ◌++◌, length, Option, Some, None, Result, Ok, Err, refl, sym, ap, ◌∙◌, subst, append-nil, append_assoc, arith, length-append}
+use Rattle.std.specs.Prelude.{IfOk, OnErr}
 use Rattle.ps_shapes.specs.Sheet.{Sheet}
 use Rattle.ps_objects.specs.declared.settings.Settings.{Settings}
 use Rattle.ps_kinds.specs.declared.regs.Regs.{Regs}
 use Rattle.ps_memory.specs.Memory.{Memory}
 use Rattle.ps_memory.specs.Tree.{Tree}
+use Rattle.ps_meaning.specs.Answer.{Log}
 use Rattle.ps_execution.specs.Lawful.{LawfulTable}
+use Rattle.ps_execution.specs.Reached.{outer_for}
 use Rattle.ps_execution.specs.Section.{End, Through, Stopped, Quitted, OutOfTurns, SectionResult}
 use Rattle.ps_meaning.specs.Start.{start_memory, start_registers}
-use Rattle.dsc_split.specs.Sections.{sections_of}
+use Rattle.dsc_split.specs.Sections.{sections_of, text_of}
 use Rattle.dsc_split.specs.declared.section.Section.{Section}
 use Rattle.out_writers.specs.Faults.{HasRisen}
-use Rattle.section_sequence.specs.Between.{MayRun}
+use Rattle.ps_machine.specs.Sections.{section_of, end_in, RanToEnd, RanSo, RanTo, Wrote}
+use Rattle.ps_machine.specs.Starting.{MayRun}
+use Rattle.ps_machine.specs.declared.refusal.RunRefusal.{RunRefusal}
+use Rattle.ps_machine.specs.declared.section.Ran.{Ran}
+use Rattle.ps_machine.specs.declared.section.SectionEnd.{SectionEnd}
+use Rattle.ps_machine.specs.declared.section.SectionEnd.TheVariants as end
 use Rattle.section_sequence.specs.Counting.{Writing, CountsAll, CountsFront}
-use Rattle.section_sequence.specs.Running.{Reaches, one_more, Finishes, MayRunAll}
+use Rattle.section_sequence.specs.Running.{Reaches, GoesOn, one_more, Finishes, MayRunAll}
 use Rattle.section_sequence.specs.Sequence.{Job, Progress, stood, begun, section_run, after_end, sequence_from}
-use Rattle.section_sequence.specs.Machines.{end_in}
 use Rattle.section_sequence.specs.declared.page_counter.PageCounter.{PageCounter}
-use Rattle.section_sequence.specs.declared.machine.Ran.{Ran}
 use Rattle.section_sequence.proofs.Numbers as numbers
 use Rattle.section_sequence.proofs.Sections.{starts_law}
 
@@ -157,3 +162,44 @@ stays_ended since none J x ran M o n Through h = absurd (n h)
 stays_ended since none J x ran M o n Stopped h = record { regs = refl; end = h; memory = refl; written = none o }
 stays_ended since none J x ran M o n Quitted h = record { regs = refl; end = h; memory = refl; written = none o }
 stays_ended since none J x ran M o n OutOfTurns h = record { regs = refl; end = h; memory = refl; written = none o }
+
+-- ---- a section over memory that tells no track
+
+some_not : {A : Type 0} (x : A) → None ≡ Some x → ⊥
+some_not x e = cc
+
+-- no restore is an outer one there
+ran_here : {O : Type 0} (since : Writing O) (t : Tree SectionResult) (old : Log) (ran : Ran) (log : Log) (new out : O) → old.track ≡ None
+    → RanTo since t old ran log new out → RanToEnd since t old ran log new out
+ran_here since t old ran log new out n h = go ran.end h
+  where
+    go : (e : SectionEnd) → RanSo since t old e ran log new out → RanToEnd since t old ran log new out
+    go end.Through h = h
+    go end.Stopped h = h
+    go end.Quit h = h
+    go end.Spent h = h
+    go (end.Outer q) h = absurd (some_not q (sym (ap (outer_for t old.view) n) ∙ h))
+
+-- the section that runs after those that have come to their ends
+runs_on : {O : Type 0} (since cut : Writing O) (J : Job) (x : Section) (R : Regs) (old : Log) (r : Result Ran RunRefusal) (log : Log) (new out : O) → old.track ≡ None
+    → IfOk r (λ ran. RanTo since (section_run J x R) old ran log new out) → OnErr r (Wrote cut new out (section_run J x R) old.view)
+    → GoesOn since cut (one_more J x R old.view Through) r log.view new out
+runs_on since cut J x R old (Ok ran) log new out n h k =
+    let r = ran_here since (section_run J x R) old ran log new out n h in
+    record { regs = r.regs; end = r.end; memory = ap (λ (l : Log). l.view) r.log; written = r.wrote }
+runs_on since cut J x R old (Err e) log new out n h k = k
+
+-- after an end through its text, the next section runs
+module _ {O : Type 0} (since cut : Writing O) (J : Job) (x : Section) (R : Regs) (old : Log) (r : Result Ran RunRefusal) (log : Log) (new out : O) (text : List ℕ) (f : text ≡ text_of J.bytes x) (n : old.track ≡ None)
+    (h : IfOk r (λ ran. RanTo since (section_of J.table text J.settings J.moment x.number x.kind R) old ran log new out))
+    (k : OnErr r (Wrote cut new out (section_of J.table text J.settings J.moment x.number x.kind R) old.view)) where
+  runs_next : GoesOn since cut (one_more J x R old.view Through) r log.view new out
+  runs_next = runs_on since cut J x R old r log new out n
+      (subst (λ t. IfOk r (λ ran. RanTo since (section_of J.table t J.settings J.moment x.number x.kind R) old ran log new out)) f h)
+      (subst (λ t. OnErr r (Wrote cut new out (section_of J.table t J.settings J.moment x.number x.kind R) old.view)) f k)
+
+  pub goes_on : (before : SectionEnd) → before ≡ end.Through → (e : End) → before ≡ end_in e → GoesOn since cut (one_more J x R old.view e) r log.view new out
+  goes_on before b Through g = runs_next
+  goes_on before b Stopped g = absurd cc
+  goes_on before b Quitted g = absurd cc
+  goes_on before b OutOfTurns g = absurd cc

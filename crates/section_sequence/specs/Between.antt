@@ -5,30 +5,18 @@ use Rattle.ps_objects.specs.declared.settings.Settings.{Settings}
 use Rattle.ps_kinds.specs.declared.regs.Regs.{Regs}
 use Rattle.ps_memory.specs.Memory.{Memory}
 use Rattle.ps_memory.specs.Tree.{result, after}
-use Rattle.ps_meaning.specs.Kin.{HasNoneFrom}
-use Rattle.ps_meaning.specs.Registers.{SoundState, world_of}
 use Rattle.ps_meaning.specs.Start.{start_memory, start_registers}
-use Rattle.ps_execution.specs.Lawful.{LawfulTable, SoundAt}
-use Rattle.ps_execution.specs.Machine.{goes}
-use Rattle.ps_execution.specs.Section.{fresh_state, section_meaning}
+use Rattle.ps_execution.specs.Lawful.{LawfulTable}
+use Rattle.ps_execution.specs.Section.{section_meaning}
 use Rattle.ps_execution.specs.Table.{Program}
+use Rattle.ps_machine.specs.Starting.{MayRun}
 use Rattle.dsc_split.specs.Sections.{sections_of}
 use Rattle.dsc_split.specs.declared.section.Section.{Section}
 use Rattle.section_sequence.specs.Sequence.{Job, Progress, sequence_from, sequence_meaning}
 
--- Section n may run on these registers and this memory: they are a sound state, which has no cell and no save of this number or a greater one.
-pub record MayRun (n : ℕ) (R : Regs) (M : Memory) : Type 0 where
-  pub sound : SoundState R M
-  pub unnamed : HasNoneFrom n (world_of n M)
-
--- so it is before the first section
+-- before the first section, it may run
 abbrev pub StartsLaw : Type 0
 StartsLaw = (s : Settings) → MayRun 1 (start_registers s) (start_memory s)
-
--- there, a section's fresh state is one from which the machine may run
-abbrev pub BeginsLaw : Type 0
-BeginsLaw = (text : List ℕ) (settings : Settings) (moment n : ℕ) (kind : SectionKind) (R : Regs) (M : Memory) →
-    1 ≤ n → MayRun n R M → SoundAt text (goes (fresh_state settings moment n kind R)) M
 
 -- and however it ends, the next one may run on what it leaves
 abbrev pub EndsLaw : Type 0

@@ -1,7 +1,5 @@
-pub mod SectionText
 pub mod Sequence
 pub mod Between
 pub mod Counting
 pub mod Counted
-pub mod Machines
 pub mod Running

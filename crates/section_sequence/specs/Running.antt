@@ -4,14 +4,15 @@ use Rattle.ps_kinds.specs.declared.regs.Regs.{Regs}
 use Rattle.ps_memory.specs.Memory.{Memory}
 use Rattle.ps_execution.specs.Section.{End}
 use Rattle.dsc_split.specs.declared.section.Section.{Section}
-use Rattle.section_sequence.specs.Between.{MayRun, AreInOrder}
+use Rattle.ps_machine.specs.Starting.{MayRun}
+use Rattle.section_sequence.specs.Between.{AreInOrder}
 use Rattle.section_sequence.specs.Counting.{Writing}
 use Rattle.ps_objects.specs.declared.settings.Settings.{Settings}
 use Rattle.ps_execution.specs.Table.{Table}
 use Rattle.section_sequence.specs.Sequence.{Job, job_of, Progress, stood, begun, section_run, after_end, sequence_from}
-use Rattle.section_sequence.specs.Machines.{end_in}
-use Rattle.section_sequence.specs.declared.machine.RunRefusal.{RunRefusal}
-use Rattle.section_sequence.specs.declared.machine.Ran.{Ran}
+use Rattle.ps_machine.specs.Sections.{end_in}
+use Rattle.ps_machine.specs.declared.refusal.RunRefusal.{RunRefusal}
+use Rattle.ps_machine.specs.declared.section.Ran.{Ran}
 use Rattle.section_sequence.specs.declared.running.Finished.{Finished}
 
 -- registers, end and memory are those of the progress, and an outlet was given its papers and its text

@@ -10,7 +10,8 @@ use Rattle.ps_execution.specs.Section.{End, Through, Stopped, Quitted, OutOfTurn
 use Rattle.ps_execution.specs.Table.{Table}
 use Rattle.dsc_split.specs.Sections.{text_of}
 use Rattle.dsc_split.specs.declared.section.Section.{Section}
-use Rattle.section_sequence.specs.SectionText.{papers_of, section_text}
+use Rattle.ps_machine.specs.Lines.{papers_of}
+use Rattle.ps_machine.specs.SectionText.{section_text}
 
 -- a job's bytes, and what they are interpreted with
 pub record Job : Type 0 where

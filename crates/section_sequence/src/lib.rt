@@ -1,20 +1,17 @@
 //! The sections of a job in sequence, on one memory.
 #![tactic(auto)]
 
-ghost use Rattle.section_sequence.specs.Between.{StartsLaw, BeginsLaw, EndsLaw, InOrderLaw, SequenceLaw, JobLaw};
+ghost use Rattle.section_sequence.specs.Between.{StartsLaw, EndsLaw, InOrderLaw, SequenceLaw, JobLaw};
 
-mod machine;
 mod page_counter;
 mod running;
 
-pub use machine::{Ran, RunRefusal, SectionEnd, SectionMachine};
 pub use running::{Finished, run_sections};
 
 /// Before each section of a job, registers and memory are such that it may run: at the start, and after each section, however it
 /// has ended.
 pub fn sequence_law()
     ensures starts { StartsLaw }
-    ensures begins { BeginsLaw }
     ensures ends { EndsLaw }
     ensures in_order { InOrderLaw }
     ensures sequence { SequenceLaw }

@@ -3,16 +3,18 @@ ghost use Rattle.std.specs.Prelude.{◌≡◌, ◌≤◌, ◌+◌, length, IfOk,
 ghost use Rattle.ps_execution.specs.Section.{End};
 ghost use Rattle.dsc_split.specs.Law.{StandsWithin};
 ghost use Rattle.out_writers.specs.Faults.{HasRisen};
-ghost use Rattle.section_sequence.specs.Between.{MayRun};
+ghost use Rattle.ps_machine.specs.Refusals.{IsFault};
+ghost use Rattle.ps_machine.specs.Sections.{end_in};
+ghost use Rattle.ps_machine.specs.Starting.{MayRun};
 ghost use Rattle.section_sequence.specs.Running.{CutOff, Finishes, GoesOn, MayRunAll, one_more, sections_from};
 ghost use Rattle.section_sequence.specs.Sequence.{job_of};
-ghost use Rattle.section_sequence.specs.Machines.{IsFault, end_in};
 
-use crate::machine::{Ran, RunRefusal, SectionEnd, SectionMachine};
 use crate::page_counter::PageCounter;
 use dsc_split::Section;
 use out_writers::Outlet;
 use ps_kinds::{Regs, Settings};
+use ps_machine::{Ran, RunRefusal, SectionEnd, run_section};
+use ps_steps::Operators;
 use std::alloc::Global;
 use vm_mem::Base;
 
@@ -25,7 +27,7 @@ pub struct Finished {
 }
 
 /// Runs a section, unless the job has ended before it.
-fn go_on<M: Base, O: Outlet, T: SectionMachine<M>>(
+fn go_on<M: Base, O: Outlet, T: Operators<M>>(
     alloc: Global,
     settings: &Settings,
     moment: u64,
@@ -48,7 +50,7 @@ fn go_on<M: Base, O: Outlet, T: SectionMachine<M>>(
     if ran.end != SectionEnd::Through {
         return Ok(ran);
     }
-    T::run_section(
+    run_section::<M, O, T>(
         alloc,
         settings,
         moment,
@@ -62,7 +64,7 @@ fn go_on<M: Base, O: Outlet, T: SectionMachine<M>>(
 }
 
 /// Runs sections of a job in sequence, from these registers and on this memory.
-pub fn run_sections<M: Base, O: Outlet, T: SectionMachine<M>>(
+pub fn run_sections<M: Base, O: Outlet, T: Operators<M>>(
     alloc: Global,
     settings: &Settings,
     moment: u64,

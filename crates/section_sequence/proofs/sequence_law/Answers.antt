@@ -6,9 +6,6 @@ use Rattle.section_sequence.proofs.sequence_law.Goals as goal
 pub returns-clause-starts : goal.returns-clause-starts
 returns-clause-starts c = Sections.starts_law
 
-pub returns-clause-begins : goal.returns-clause-begins
-returns-clause-begins c = Sections.begins_law
-
 pub returns-clause-ends : goal.returns-clause-ends
 returns-clause-ends c = Sections.ends_law
 

@@ -1,0 +1,72 @@
+-- The table of all operators that are there: which crate gives which of them.
+use Rattle.std.specs.Prelude.{ℕ, Bool, ◌-◌, false, ◌&&◌, nat_le, cond, List, [], ◌∷◌}
+use Rattle.ps_names.specs.declared.error_name.ErrorName.TheVariants.{Undefined}
+use Rattle.ps_names.specs.declared.places.TheConstants as at
+use Rattle.ps_kinds.specs.declared.frame.Frame.{Frame}
+use Rattle.ps_kinds.specs.declared.show.ShowRun.{ShowRun}
+use Rattle.ps_kinds.specs.declared.state.State.{State}
+use Rattle.ps_memory.specs.Tree.{fail}
+use Rattle.ps_operator.specs.Tree.{Ask}
+use Rattle.ps_execution.specs.Lawful.{LawfulTable}
+use Rattle.ps_execution.specs.Table.{Leaving, Table}
+use Rattle.stack_arith.specs.Operators as stack_arith
+use Rattle.text_ops.specs.Operators as text_ops
+use Rattle.dict_ops.specs.Operators as dict_ops
+use Rattle.error_ops.specs.Operators as error_ops
+
+-- ---- operators
+
+-- A crate's operators stand together in the list of operators: the first place, the last, and what the operator at a place between does
+-- in a section of this text.
+pub record Family : Type 0 where
+  pub first : ℕ
+  pub last : ℕ
+  pub run : ℕ → List ℕ → State → Ask
+
+-- the crates that are there, in the order of their operators
+abbrev pub families : List Family
+families =
+    record { first = at.POP; last = at.BITSHIFT; run = λ n text s. stack_arith.run n s }
+    ∷ record { first = at.STRING; last = at.EQUALS_SIGN; run = λ n text s. text_ops.run n s }
+    ∷ record { first = at.DICT; last = at.DICTSTACK; run = λ n text s. dict_ops.run n s }
+    ∷ record { first = at.FIRST_DEFAULT_ENTRY; last = at.OPERATOR_COUNT - 1; run = λ n text s. error_ops.run n s }
+    ∷ []
+
+-- the operator at a place is one of a crate's
+abbrev pub is_of : ℕ → Family → Bool
+is_of n f = nat_le f.first n && nat_le n f.last
+
+-- what the operator at a place does; one of no crate is undefined
+abbrev pub run_among : List Family → ℕ → List ℕ → State → Ask
+run_among [] n text s = fail Undefined
+run_among (f ∷ fs) n text s = cond (is_of n f) (f.run n text s) (run_among fs n text s)
+
+-- ---- frames
+
+-- a crate's frames, and one step of such a frame
+pub record Walker : Type 0 where
+  pub takes : Frame → Bool
+  pub step : Frame → List ℕ → State → Ask
+
+-- the crates that are there whose frames take steps: none
+abbrev pub walkers : List Walker
+walkers = []
+
+-- the step of a frame; that of no crate's frame is undefined
+abbrev pub step_among : List Walker → Frame → List ℕ → State → Ask
+step_among [] f text s = fail Undefined
+step_among (w ∷ ws) f text s = cond (w.takes f) (w.step f text s) (step_among ws f text s)
+
+-- a show leaves the registers as they are, and no other size of paper
+abbrev pub leave : ShowRun → State → Leaving
+leave r s = record { regs = s.regs; wipes = false }
+
+-- ---- the table
+
+-- the table of all that is there
+abbrev pub table : Table
+table = record { run = run_among families; step = step_among walkers; leave = leave }
+
+-- it keeps memory and states sound
+abbrev pub TableLaw : Type 0
+TableLaw = LawfulTable table

@@ -1,0 +1,41 @@
+//! What the table does: an operator's crate is found by the operator's place in the list of operators.
+
+use ps_kinds::{Act, ErrorName, NoMemory, Op, ShowRun, State};
+use ps_names::places;
+use ps_steps::Operators;
+use vm_mem::Mem;
+
+/// The operators of all crates that are there.
+///
+/// An operator whose crate isn't there is undefined, and so is the step of a frame whose crate isn't there.
+pub struct AllOperators;
+
+impl<M: Mem> Operators<M> for AllOperators {
+    ghost use Rattle.operator_table.specs.Operators as spec;
+    ghost use Rattle.operator_table.specs.Kept.{table_lawful};
+
+    ghost table = { spec.table };
+
+    fn run(op: Op, text: &[u8], state: &mut State, mem: &mut M) -> Result<Act, NoMemory> {
+        match op.index() {
+            places::POP..=places::BITSHIFT => stack_arith::run(op, text, state, mem),
+            places::STRING..=places::EQUALS_SIGN => text_ops::run(op, text, state, mem),
+            places::DICT..=places::DICTSTACK => dict_ops::run(op, text, state, mem),
+            places::FIRST_DEFAULT_ENTRY.. => error_ops::run(op, text, state, mem),
+            _ => Ok(Act::Fail(ErrorName::Undefined)),
+        }
+    }
+
+    /// A crate whose frames take steps gets its arm here, by the kind of the newest frame.
+    #[tactic(auto, using(crate::proofs::Families::step_absent))]
+    fn step(_text: &[u8], _state: &mut State, _mem: &mut M) -> Result<Act, NoMemory> {
+        Ok(Act::Fail(ErrorName::Undefined))
+    }
+
+    /// A show leaves the registers as they are, until the crate of shows is there.
+    fn leave(_run: &ShowRun, _state: &mut State, _mem: &mut M) -> Result<(), NoMemory> {
+        Ok(())
+    }
+
+    ghost lawful = { table_lawful };
+}

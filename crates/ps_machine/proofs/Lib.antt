@@ -1,0 +1,10 @@
+pub mod Faults
+pub mod Texts
+pub mod Outputs
+pub mod Advancing
+pub mod Showing
+pub mod Loops
+pub mod Stands
+pub mod Beginning
+pub mod Closings
+pub mod Whole
