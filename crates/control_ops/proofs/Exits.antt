@@ -1,6 +1,5 @@
 -- Steps of the search for what an exit comes to.
 use Rattle.std.proofs.Common.{◌≡◌, ℕ, ◌+◌, true, false, cond, List, drop, Some, Ok, Err, slice_get, ap, ◌∙◌}
-use Rattle.ps_names.specs.declared.error_name.ErrorName.{ErrorName}
 use Rattle.ps_names.specs.declared.error_name.ErrorName.TheVariants.{InvalidExit}
 use Rattle.ps_kinds.specs.declared.frame.Frame.{Frame}
 use Rattle.ps_execution.specs.Frames.{way, is_loop}

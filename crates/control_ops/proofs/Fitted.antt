@@ -1,10 +1,9 @@
 -- What fits where an operator or a step of this crate goes on, and lemmas on looks that its trees need.
-use Rattle.std.proofs.Common.{◌≡◌, ℕ, zero, suc, ◌+◌, ◌<◌, ◌≤◌, ◌==◌, Bool, true, false, cond, nat_lt, List, [], ◌∷◌, ◌++◌, length, Option, Some, None, slice_get, Ok, refl, sym, ap, ◌∙◌, subst, true≢false, arith}
+use Rattle.std.proofs.Common.{◌≡◌, ℕ, zero, suc, ◌+◌, ◌<◌, ◌==◌, Bool, true, false, cond, nat_lt, List, [], ◌∷◌, ◌++◌, length, Option, Some, None, slice_get, Ok, refl, sym, ap, subst, true≢false, arith}
 use Rattle.std.specs.List.{AllByRecursion}
-use Rattle.ps_objects.specs.Key.{told_key, key_kind, cell_of_key}
+use Rattle.ps_objects.specs.Key.{told_key}
 use Rattle.ps_objects.specs.Object.{cell_named}
 use Rattle.ps_objects.specs.Operands.{string_of}
-use Rattle.ps_objects.specs.declared.access.Access.TheVariants.{Unlimited}
 use Rattle.ps_objects.specs.declared.cell.Cell.{Cell}
 use Rattle.ps_objects.specs.declared.key.Key.{Key}
 use Rattle.ps_objects.specs.declared.key.Key.TheVariants as key

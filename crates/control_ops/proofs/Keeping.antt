@@ -1,5 +1,5 @@
 -- Each operator keeps a state that fits: its tree again, with what fits beside each look and end.
-use Rattle.std.proofs.Common.{◌≡◌, ℕ, Bool, true, false, cond, List, [], ◌∷◌, drop, Ok, refl}
+use Rattle.std.proofs.Common.{◌≡◌, ℕ, Bool, true, false, cond, List, [], ◌∷◌, drop, Ok}
 use Rattle.std.specs.List.{AllByRecursion}
 use Rattle.ps_objects.specs.Access.{read_right, run_right}
 use Rattle.ps_objects.specs.Operands.{needed, room_for, object_at, integer_at, boolean_at, number_at, procedure_at, runnable_at}

@@ -1,11 +1,9 @@
 -- A pair that is looked at.
-use Rattle.std.proofs.Common.{◌≡◌, ℕ, ◌+◌, List, [], ◌∷◌, ◌++◌, drop, length, Option, Some, None, slice_get, Ok, refl, sym, ap, ◌∙◌, arith}
-use Rattle.std.proofs.lemmas.List.{drop_all}
+use Rattle.std.proofs.Common.{◌≡◌, ℕ, ◌+◌, List, drop, Option, Some, None, slice_get, refl, sym, ap, ◌∙◌}
 use Rattle.ps_objects.specs.declared.cell.Cell.{Cell}
 use Rattle.ps_objects.specs.declared.key.Key.{Key}
 use Rattle.ps_objects.specs.declared.object.Object.{Object}
 use Rattle.ps_objects.specs.declared.place.Loc.TheVariants as loc
-use Rattle.ps_objects.specs.declared.place.Value.{Value}
 use Rattle.ps_kinds.specs.declared.frame.Pair.{Pair}
 use Rattle.ps_memory.specs.Memory.{value_at}
 use Rattle.ps_memory.specs.Tree.{Application}

@@ -16,9 +16,7 @@ use Rattle.ps_operator.specs.Standing.{is_dict, is_string, is_named}
 use Rattle.ps_operator.proofs.Standing.{object_stands}
 use Rattle.control_ops.specs.Executing.{allowed, start_kind, start_of}
 use Rattle.control_ops.specs.Loops.{walked_of}
-use Rattle.control_ops.specs.declared.executing.Start.{Start}
 use Rattle.control_ops.specs.declared.executing.Start.TheVariants as start
-use Rattle.control_ops.specs.declared.walking.Walked.{Walked}
 use Rattle.control_ops.specs.declared.walking.Walked.TheVariants as walked
 
 called_is : (r : Result (Unit {0}) ErrorName) (part : Interval) → allowed r start.Called ≡ Ok (start.Scanned part) → ⊥

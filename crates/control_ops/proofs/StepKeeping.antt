@@ -1,5 +1,5 @@
 -- Each step keeps a state that fits; one that costs no turn ends its frame and begins nothing.
-use Rattle.std.proofs.Common.{◌≡◌, ℕ, ℤ, zero, suc, ◌+◌, Bool, true, false, not, ◌&&◌, cond, nat_lt, int_div, List, [], ◌∷◌, length, Option, Some, None, slice_get, Result, Ok, Err, pos, refl, sym, ap, ◌∙◌, true≢false}
+use Rattle.std.proofs.Common.{◌≡◌, ℕ, ℤ, zero, suc, ◌+◌, Bool, true, false, not, ◌&&◌, cond, nat_lt, int_div, List, [], ◌∷◌, Option, Some, None, slice_get, Result, Ok, Err, pos, refl, sym, ap, ◌∙◌, true≢false}
 use Rattle.std.specs.List.{AllByRecursion}
 use Rattle.ps_names.specs.declared.error_name.ErrorName.{ErrorName}
 use Rattle.ps_shapes.specs.declared.numbers.Real.{Real}
@@ -30,7 +30,7 @@ use Rattle.ps_execution.specs.Lawful.{names_in_turn}
 use Rattle.ps_execution.specs.Machine.{Effects, LeavesCalm}
 use Rattle.control_ops.specs.Calls.{call_of}
 use Rattle.control_ops.specs.Operators.{StepsLaw, SteadyLaw}
-use Rattle.control_ops.specs.Rounds.{over, fits_i32, round_room, round, variable, next_value, for_step, items_in, bytes_in, place_left, item_round, byte_round, pair_round, step}
+use Rattle.control_ops.specs.Rounds.{over, fits_i32, round_room, round, variable, next_value, items_in, bytes_in, place_left, item_round, byte_round, pair_round, step}
 use Rattle.control_ops.proofs.Fitted.{call_fits, byte_keeps, among, more_than_none, none_left, told_fits, items_left, bytes_left}
 
 -- ---- steps keep what fits

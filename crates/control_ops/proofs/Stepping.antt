@@ -1,5 +1,5 @@
 -- From the step of a frame to that of the newest.
-use Rattle.std.proofs.Common.{◌≡◌, ℕ, zero, suc, nat_eq, true, false, List, [], ◌∷◌, Result, Ok, Err, sym, ap, ◌∙◌, subst, true≢false}
+use Rattle.std.proofs.Common.{◌≡◌, ℕ, zero, suc, nat_eq, true, false, List, ◌∷◌, Result, Ok, Err, sym, ap, ◌∙◌, subst, true≢false}
 use Rattle.ps_names.specs.declared.error_name.ErrorName.{ErrorName}
 use Rattle.ps_objects.specs.declared.object.Object.{Object}
 use Rattle.ps_objects.specs.declared.refusal.Refusal.{Refusal}

@@ -1,5 +1,5 @@
 -- Calling an object: a procedure, or any other object that is then the one item of a frame of its own.
-use Rattle.std.specs.Prelude.{ℕ, Bool, false, nat_eq, if◌then◌else◌, List, [], Result, Ok}
+use Rattle.std.specs.Prelude.{Bool, false, nat_eq, if◌then◌else◌, List, [], Result, Ok}
 use Rattle.ps_names.specs.declared.error_name.ErrorName.{ErrorName}
 use Rattle.ps_objects.specs.declared.object.Kind.{Kind}
 use Rattle.ps_objects.specs.declared.object.Kind.TheVariants as kind

@@ -13,7 +13,6 @@ use Rattle.ps_objects.specs.declared.objects.Interval.{Interval}
 use Rattle.ps_objects.specs.declared.refusal.Refusal.{Refusal}
 use Rattle.ps_objects.specs.declared.refusal.Refusal.TheVariants as refusal
 use Rattle.ps_kinds.specs.declared.act.Act.{Act}
-use Rattle.ps_kinds.specs.declared.act.Act.TheVariants as act
 use Rattle.ps_kinds.specs.declared.frame.Frame.{Frame}
 use Rattle.ps_kinds.specs.declared.frame.Frame.TheVariants as frame
 use Rattle.ps_kinds.specs.declared.frame.Pair.{Pair}
