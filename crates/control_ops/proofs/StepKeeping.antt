@@ -28,7 +28,7 @@ use Rattle.ps_execution.specs.Execution.{on}
 use Rattle.ps_execution.specs.Frames.{costs, is_past, length_of}
 use Rattle.ps_execution.specs.Lawful.{names_in_turn}
 use Rattle.ps_execution.specs.Machine.{Effects, LeavesCalm}
-use Rattle.control_ops.specs.Calls.{call_of}
+use Rattle.control_ops.specs.Calls.{call_room, call_of}
 use Rattle.control_ops.specs.Operators.{StepsLaw, SteadyLaw}
 use Rattle.control_ops.specs.Rounds.{over, fits_i32, round_room, round, variable, next_value, items_in, bytes_in, place_left, item_round, byte_round, pair_round, step}
 use Rattle.control_ops.proofs.Fitted.{call_fits, byte_keeps, among, more_than_none, none_left, told_fits, items_left, bytes_left}
@@ -93,7 +93,7 @@ module _ (text : List ℕ) (most : ℕ) (s : State) (W : World) (f : Frame) (h :
 
   repeat_keeps_on : (body : Object) (n : ℕ) → FitsObject W.shapes body → Kept (step (frame.Repeat body n) here)
   repeat_keeps_on body zero b = over_keeps
-  repeat_keeps_on body (suc n) b = read_keeps (round_room 0 body here) (λ _ _. round_keeps (ops s) (frame.Repeat body n) body operands b b)
+  repeat_keeps_on body (suc n) b = read_keeps (call_room body here.frames) (λ _ _. round_keeps (ops s) (frame.Repeat body n) body operands b b)
 
   for_keeps_on : (body : Object) (next : Option Real) (increment limit : Real) (whole : Bool) → FitsObject W.shapes body → Kept (step (frame.For body next increment limit whole) here)
   for_keeps_on body None increment limit whole b = over_keeps
@@ -102,7 +102,7 @@ module _ (text : List ℕ) (most : ℕ) (s : State) (W : World) (f : Frame) (h :
 step_kept : (text : List ℕ) (most : ℕ) (s : State) (W : World) (f : Frame) → Fits text W (on (f ∷ s.frames) s) → Keeps text most s.frames (step f (on (f ∷ s.frames) s)) (on (f ∷ s.frames) s) W
 step_kept text most s W (frame.For body next increment limit whole) h = for_keeps_on text most s W (frame.For body next increment limit whole) h body next increment limit whole h.state.frames.0
 step_kept text most s W (frame.Repeat body n) h = repeat_keeps_on text most s W (frame.Repeat body n) h body n h.state.frames.0
-step_kept text most s W (frame.Loop body) h = read_keeps (round_room 0 body (on (frame.Loop body ∷ s.frames) s)) (λ _ _. round_keeps text most s W (frame.Loop body) h (ops s) (frame.Loop body) body h.state.registers.operands h.state.frames.0 h.state.frames.0)
+step_kept text most s W (frame.Loop body) h = read_keeps (call_room body (frame.Loop body ∷ s.frames)) (λ _ _. round_keeps text most s W (frame.Loop body) h (ops s) (frame.Loop body) body h.state.registers.operands h.state.frames.0 h.state.frames.0)
 step_kept text most s W (frame.Items array at body) h = item_keeps_on text most s W (frame.Items array at body) h array at body h.state.frames.0.0 h.state.frames.0.1 (place_left (items_in array.kind) at) refl
 step_kept text most s W (frame.Bytes string at body) h = byte_keeps_on text most s W (frame.Bytes string at body) h string at body h.state.frames.0.0 h.state.frames.0.1 (place_left (bytes_in string.kind) at) refl
 step_kept text most s W (frame.Pairs pairs at body) h = pair_keeps_on text most s W (frame.Pairs pairs at body) h pairs at body h.state.frames.0.0 h.state.frames.0.1 (slice_get pairs at) refl

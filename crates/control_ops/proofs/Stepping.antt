@@ -17,7 +17,7 @@ use Rattle.ps_operator.specs.Standing.{is_named}
 use Rattle.ps_operator.specs.Registers.{ops}
 use Rattle.ps_operator.specs.Tree.{Ask, read}
 use Rattle.ps_operator.proofs.Standing.{named}
-use Rattle.control_ops.specs.Rounds.{round, repeat_step, step, newest_step, with_frame, HasRoom, PutsBack}
+use Rattle.control_ops.specs.Rounds.{round, repeat_step, step, newest_step, with_frame, room_above, PutsBack}
 
 -- what the machine is told is what the step owes
 pub told_steps : (t : State → Ask) (before : State) (old : Log) (r : Result Act Refusal) (s : State) (log : Log) → Steps t before old r s log → RunsStep t before old (told r) s log
@@ -47,9 +47,9 @@ puts_meets f e before (Err refusal.NoMemory) after log h = tt
 
 -- no room for a round of `repeat`
 pub repeat_refused : (body : Object) (n : ℕ) (e : ErrorName) (before : State) (r : Result Act Refusal) (after : State) (log : Log) → nat_eq n 0 ≡ false
-    → HasRoom 0 body before (Err e) → PutsBack (frame.Repeat body n) e before r after → Steps (repeat_step body n) (with_frame (frame.Repeat body n) before) log r after log
+    → Err e ≡ room_above body before.frames → PutsBack (frame.Repeat body n) e before r after → Steps (repeat_step body n) (with_frame (frame.Repeat body n) before) log r after log
 repeat_refused body zero e before r after log p h g = absurd (true≢false p)
 repeat_refused body (suc n) e before r after log p h g =
     let f = frame.Repeat body (suc n) in
     subst (λ (x : Result (Unit {0}) ErrorName). Meets (answer_over before.frames (read x (λ _. round (with_frame f before) (ops before) (frame.Repeat body n) body)) (with_frame f before) log) r after log)
-    (h f) (puts_meets f e before r after log g)
+    h (puts_meets f e before r after log g)

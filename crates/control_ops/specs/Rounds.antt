@@ -30,7 +30,7 @@ use Rattle.control_ops.specs.Calls.{call_room, call_of}
 abbrev pub over : State → Ask
 over s = leaves s (ops s)
 
--- room for n more operands, then for the frame of the body
+-- room for n more operands, of which there is one at least, then for the frame of the body
 abbrev pub round_room : ℕ → Object → State → Result (Unit {0}) ErrorName
 round_room n body s = elim (room_for n (ops s)) [ Err e ↦ Err e | Ok u ↦ call_room body s.frames ]
 
@@ -69,13 +69,13 @@ for_step body (Some v) increment limit whole s =
 abbrev pub repeat_step : Object → ℕ → State → Ask
 repeat_step body zero s = over s
 repeat_step body (suc n) s =
-    read (round_room 0 body s) (λ _.
+    read (call_room body s.frames) (λ _.
     round s (ops s) (frame.Repeat body n) body)
 
 -- a step of `loop`
 abbrev pub loop_step : Object → State → Ask
 loop_step body s =
-    read (round_room 0 body s) (λ _.
+    read (call_room body s.frames) (λ _.
     round s (ops s) (frame.Loop body) body)
 
 -- ---- forall
@@ -171,6 +171,10 @@ abbrev pub with_frame : Frame → State → State
 with_frame f s = record s { frames = f ∷ s.frames }
 
 -- ---- what the code of a step asks
+
+-- room for the body's frame on these and a frame that was taken off, for which any stands
+abbrev pub room_above : Object → List Frame → Result (Unit {0}) ErrorName
+room_above body fs = call_room body (frame.Stopped ∷ fs)
 
 -- there is room for a round, whatever frame stands on those of the state
 abbrev pub HasRoom : ℕ → Object → State → Result (Unit {0}) ErrorName → Type 0

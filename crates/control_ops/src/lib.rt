@@ -1,4 +1,4 @@
-//! Operators that execute, loop, leave and stop, and the steps of their frames (section 3.9.3 of the language manual).
+//! Operators that execute, loop, leave and stop, and the steps of their frames (section 8.2 of the language manual).
 #![tactic(auto)]
 
 mod calls;

@@ -15,8 +15,18 @@ use ps_kinds::{
 };
 use ps_operator::{Mem, frames_room, literal, look_byte, look_item};
 
-/// Whether there is room for `n` more operands, and then for the frame of the body, over a frame that was taken off:
-/// stackoverflow, execstackoverflow.
+/// Whether there is room for the frame of a body, over a frame that was taken off: execstackoverflow.
+fn call_room(state: &State, body: &Object) -> Result<(), ErrorName>
+    ensures { result ≡ spec.room_above body.now state.now.frames }
+{
+    if is_empty(&body.kind) {
+        Ok(())
+    } else {
+        frames_room(&state.frames, 2)
+    }
+}
+
+/// Whether there is room for `n` more operands, and then for the frame of the body: stackoverflow, execstackoverflow.
 fn round_room(state: &State, n: usize, body: &Object) -> Result<(), ErrorName>
     requires { n < 2 ^ 32 }
     ensures { spec.HasRoom n body.now state.now result }
@@ -109,7 +119,7 @@ pub(crate) fn repeat_step(body: Object, left: u32, state: &mut State) -> Result<
     if left == 0 {
         return Ok(Act::Done);
     }
-    if let Err(error) = round_room(state, 0, &body) {
+    if let Err(error) = call_room(state, &body) {
         return put_back(state, Frame::Repeat { body, left }, error);
     }
     let act = call_of(&body)?;
@@ -124,7 +134,7 @@ pub(crate) fn loop_step(body: Object, state: &mut State) -> Result<Act, Refusal>
     ensures { StepsAlone (spec.loop_step body)
         (spec.with_frame (frame.Loop body) state.old) result state.new }
 {
-    if let Err(error) = round_room(state, 0, &body) {
+    if let Err(error) = call_room(state, &body) {
         return put_back(state, Frame::Loop { body }, error);
     }
     let act = call_of(&body)?;
