@@ -1,0 +1,7 @@
+pub mod Exits
+pub mod Fitted
+pub mod Keeping
+pub mod Pairing
+pub mod Starts
+pub mod StepKeeping
+pub mod Stepping
