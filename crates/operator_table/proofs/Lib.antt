@@ -1,1 +1,1 @@
-pub mod Families
+pub mod Walking

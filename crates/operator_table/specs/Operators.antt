@@ -12,6 +12,8 @@ use Rattle.ps_execution.specs.Table.{Leaving, Table}
 use Rattle.stack_arith.specs.Operators as stack_arith
 use Rattle.text_ops.specs.Operators as text_ops
 use Rattle.dict_ops.specs.Operators as dict_ops
+use Rattle.control_ops.specs.Operators as control_ops
+use Rattle.control_ops.specs.Rounds as rounds
 use Rattle.error_ops.specs.Operators as error_ops
 
 -- ---- operators
@@ -29,6 +31,7 @@ families =
     record { first = at.POP; last = at.BITSHIFT; run = λ n text s. stack_arith.run n s }
     ∷ record { first = at.STRING; last = at.EQUALS_SIGN; run = λ n text s. text_ops.run n s }
     ∷ record { first = at.DICT; last = at.DICTSTACK; run = λ n text s. dict_ops.run n s }
+    ∷ record { first = at.EXEC; last = at.STOPPED; run = λ n text s. control_ops.run n s }
     ∷ record { first = at.FIRST_DEFAULT_ENTRY; last = at.OPERATOR_COUNT - 1; run = λ n text s. error_ops.run n s }
     ∷ []
 
@@ -45,27 +48,27 @@ run_among (f ∷ fs) n text s = cond (is_of n f) (f.run n text s) (run_among fs 
 
 -- a crate's frames, and one step of such a frame
 pub record Walker : Type 0 where
-  pub takes : Frame → Bool
+  pub walks : Frame → Bool
   pub step : Frame → List ℕ → State → Ask
 
--- the crates that are there whose frames take steps: none
+-- the crates that are there whose frames take steps
 abbrev pub walkers : List Walker
-walkers = []
+walkers = record { walks = rounds.walks; step = λ f text s. rounds.step f s } ∷ []
 
 -- the step of a frame; that of no crate's frame is undefined
 abbrev pub step_among : List Walker → Frame → List ℕ → State → Ask
 step_among [] f text s = fail Undefined
-step_among (w ∷ ws) f text s = cond (w.takes f) (w.step f text s) (step_among ws f text s)
+step_among (w ∷ ws) f text s = cond (w.walks f) (w.step f text s) (step_among ws f text s)
 
--- a show leaves the registers as they are, and no other size of paper
-abbrev pub leave : ShowRun → State → Leaving
-leave r s = record { regs = s.regs; wipes = false }
+-- a show leaves the registers as they are, and no paper of another size
+abbrev pub registers_left : ShowRun → State → Leaving
+registers_left r s = record { regs = s.regs; wipes = false }
 
 -- ---- the table
 
 -- the table of all that is there
 abbrev pub table : Table
-table = record { run = run_among families; step = step_among walkers; leave = leave }
+table = record { run = run_among families; step = step_among walkers; leave = registers_left }
 
 -- it keeps memory and states sound
 abbrev pub TableLaw : Type 0

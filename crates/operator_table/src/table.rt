@@ -1,6 +1,8 @@
 //! What the table does: an operator's crate is found by the operator's place in the list of operators.
+ghost use Rattle.std.specs.Prelude.{◌≡◌};
+ghost use Rattle.control_ops.specs.Rounds.{walks_in};
 
-use ps_kinds::{Act, ErrorName, NoMemory, Op, ShowRun, State};
+use ps_kinds::{Act, ErrorName, Frames, NoMemory, Op, ShowRun, State};
 use ps_names::places;
 use ps_steps::Operators;
 use vm_mem::Mem;
@@ -9,6 +11,14 @@ use vm_mem::Mem;
 ///
 /// An operator whose crate isn't there is undefined, and so is the step of a frame whose crate isn't there.
 pub struct AllOperators;
+
+/// Whether the newest of these frames is one of the control operators.
+#[tactic(auto, using(crate::proofs::Walking::walks_first, crate::proofs::Walking::walks_none))]
+fn is_control(frames: &Frames) -> bool
+    ensures { result ≡ walks_in frames.now }
+{
+    !frames.is_empty() && control_ops::walks(frames.at(0))
+}
 
 impl<M: Mem> Operators<M> for AllOperators {
     ghost use Rattle.operator_table.specs.Operators as spec;
@@ -21,15 +31,20 @@ impl<M: Mem> Operators<M> for AllOperators {
             places::POP..=places::BITSHIFT => stack_arith::run(op, text, state, mem),
             places::STRING..=places::EQUALS_SIGN => text_ops::run(op, text, state, mem),
             places::DICT..=places::DICTSTACK => dict_ops::run(op, text, state, mem),
+            places::EXEC..=places::STOPPED => control_ops::run(op, text, state, mem),
             places::FIRST_DEFAULT_ENTRY.. => error_ops::run(op, text, state, mem),
             _ => Ok(Act::Fail(ErrorName::Undefined)),
         }
     }
 
-    /// A crate whose frames take steps gets its arm here, by the kind of the newest frame.
-    #[tactic(auto, using(crate::proofs::Families::step_absent))]
-    fn step(_text: &[u8], _state: &mut State, _mem: &mut M) -> Result<Act, NoMemory> {
-        Ok(Act::Fail(ErrorName::Undefined))
+    /// A crate whose frames take steps has its arm here, by the kind of the newest frame.
+    #[tactic(auto, using(crate::proofs::Walking::runs_there, crate::proofs::Walking::runs_absent))]
+    fn step(text: &[u8], state: &mut State, mem: &mut M) -> Result<Act, NoMemory> {
+        if is_control(&state.frames) {
+            control_ops::step(text, state, mem)
+        } else {
+            Ok(Act::Fail(ErrorName::Undefined))
+        }
     }
 
     /// A show leaves the registers as they are, until the crate of shows is there.

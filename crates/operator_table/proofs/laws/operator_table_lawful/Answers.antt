@@ -1,5 +1,5 @@
-use Rattle.operator_table.proofs.Families.{lawful}
+use Rattle.operator_table.specs.Kept.{table_lawful}
 use Rattle.operator_table.proofs.laws.operator_table_lawful.Goals as goal
 
 pub returns : goal.returns
-returns c = lawful
+returns c = table_lawful
