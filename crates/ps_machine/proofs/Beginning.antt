@@ -72,4 +72,3 @@ begins_law text settings moment n kind R M l m = record {
   );
   memory = m.sound.memory n;
 }
-

@@ -36,7 +36,7 @@ module _ (s : State) (log : Log) where
       → Closes (ended_so (on [] s) Stop) log (record { end = end.Stopped; text = text }) new
   closes r text new h f =
       let e : result (ended_so (on [] s) Stop) log.view ≡ stopped s (Ok (option_map report_in r)) =
-          (came_is (ended_so (on [] s) Stop) log new (stopped s (Ok (option_map report_in r))) [] (stop_reached r new h [])).ended in
+      (came_is (ended_so (on [] s) Stop) log new (stopped s (Ok (option_map report_in r))) [] (stop_reached r new h [])).ended in
       record {
         comes = λ out. stop_reached r new h out ∙ ap (λ x. came x new out) (sym e);
         end = sym (ap (λ (x : SectionResult). end_in x.end) e);

@@ -175,10 +175,12 @@ module _ (T : Table) (lawful : LawfulTable T) (text : List ℕ) where
       m = move_of n s
 
       go : (r : Reached Move) → stepped T text n s log ≡ r → (rest : List Output) × (all ≡ (out ++ given r) ++ rest)
-      go (came x there os) e = (told (rest_of P x) there.view,
-          before_front n s log.view all out l h
-          ∙ ap (λ o. out ++ o) (told_first m x log there os e)
-          ∙ sym (append_assoc out os (told (rest_of P x) there.view)))
+      go (came x there os) e = (
+        told (rest_of P x) there.view,
+        before_front n s log.view all out l h
+            ∙ ap (λ o. out ++ o) (told_first m x log there os e)
+            ∙ sym (append_assoc out os (told (rest_of P x) there.view)),
+      )
       go (outer q) e = (told (rest_of P m) log.view, before_front n s log.view all out l h ∙ ap (λ o. o ++ told (rest_of P m) log.view) (sym (nil out)))
         where
           nil : (o : List Output) → o ++ [] ≡ o

@@ -62,10 +62,11 @@ module _ {O : Type 0} (since : Relation O) where
   pub ended : (P : Program) (t : Tree Ending) (old : Log) (o n : O) (k : Outcome) (s : State) (log : Log) (last : Option ℕ)
       → Stands since P t old o (next.Ended k) s log n last → Ends since t old (Ok (halt.Ended k last)) s log n o
   ended P t old o n k s log last h =
-      let e : told t old.view ≡ h.outputs = h.front ∙ append-nil h.outputs in
-      (sym h.rest ∙ ap (came (record { outcome = outcome_of k; state = on [] s }) log) (sym e),
-      subst (Since since n o) (sym e) h.gave,
-      h.ended ∙ ap (λ os. last_byte (messages_of os)) (sym e))
+      let e : told t old.view ≡ h.outputs = h.front ∙ append-nil h.outputs in (
+        sym h.rest ∙ ap (came (record { outcome = outcome_of k; state = on [] s }) log) (sym e),
+        subst (Since since n o) (sym e) h.gave,
+        h.ended ∙ ap (λ os. last_byte (messages_of os)) (sym e),
+      )
 
   pub ended_outer : (P : Program) (t : Tree Ending) (old : Log) (o n : O) (q : SaveName) (s : State) (log : Log) (last : Option ℕ)
       → Stands since P t old o (next.Outer q) s log n last → reached t old [] ≡ outer q

@@ -144,9 +144,9 @@ module _ (T : Table) (text : List ℕ) (settings : Settings) (moment number : �
       let both : told t old.view ≡ whole ++ more = told_bind w ending old.view in
       let tail = messages_of more ++ (line_end_after (last_byte (messages_of (told t old.view))) ++ end_text (result t old.view)) in
       let texts : messages_of whole ++ tail ≡ section_text (result t old.view) (told t old.view) =
-          sym (append_assoc (messages_of whole) (messages_of more) _)
-          ∙ ap (λ x. x ++ (line_end_after (last_byte (messages_of (told t old.view))) ++ end_text (result t old.view))) (sym (ap messages_of both ∙ messages_joined whole more))
-          ∙ sym (append_assoc (messages_of (told t old.view)) (line_end_after (last_byte (messages_of (told t old.view)))) (end_text (result t old.view))) in
+      sym (append_assoc (messages_of whole) (messages_of more) _)
+      ∙ ap (λ x. x ++ (line_end_after (last_byte (messages_of (told t old.view))) ++ end_text (result t old.view))) (sym (ap messages_of both ∙ messages_joined whole more))
+      ∙ sym (append_assoc (messages_of (told t old.view)) (line_end_after (last_byte (messages_of (told t old.view)))) (end_text (result t old.view))) in
       let papers : papers_of whole ++ papers_of more ≡ papers_of (told t old.view) = sym (ap papers_of both ∙ papers_joined whole more) in
       subst (λ x. cut n z (papers_of (told t old.view)) x) texts
       (subst (λ x. cut n z x (messages_of whole ++ tail)) papers

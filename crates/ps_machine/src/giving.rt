@@ -56,7 +56,8 @@ pub(crate) fn show<M: Mem, O: Outlet>(
     requires { page_is_here (M.log mem.old).view ≡ true }
     ensures counted { O.faults out.old ≤ O.faults out.new }
     ensures failed { IsFault result → HasRisen (O.faults out.old) (O.faults out.new) }
-    ensures shows { OnOk result (reached (shows wipe state.now (ends (goes state.now))) (M.log mem.old) []
+    ensures shows { OnOk result (
+        reached (shows wipe state.now (ends (goes state.now))) (M.log mem.old) []
         ≡ came (goes state.now) (M.log mem.new) (shown (M.log mem.old))) }
     ensures shown { OnOk result (O.since out.new out.old (papers_of (shown (M.log mem.old))) []) }
     ensures cut { OnErr result (O.cut out.new out.old (papers_of (shown (M.log mem.old))) []) }

@@ -9,8 +9,8 @@ ghost use Rattle.ps_machine.specs.Runs.{told, given, stepped, is_quiet, Advances
 ghost use Rattle.ps_machine.specs.Lines as lines;
 ghost use Rattle.ps_machine.specs.Lines.{messages_of};
 
-use crate::giving::{last_after, say, show};
 use crate::RunRefusal;
+use crate::giving::{last_after, say, show};
 use out_writers::Outlet;
 use ps_kinds::{SaveName, State};
 use ps_steps::{Next, Operators, Outcome, step};
@@ -21,10 +21,7 @@ use vm_mem::Mem;
 #[derive(Clone, Copy, Debug, PartialEq, Eq)]
 pub enum Halt {
     /// At its end, with the last byte that it said.
-    Ended {
-        outcome: Outcome,
-        last: Option<u8>,
-    },
+    Ended { outcome: Outcome, last: Option<u8> },
 
     /// At the restore of a save that was made before the run.
     Outer { save: SaveName },

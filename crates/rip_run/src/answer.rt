@@ -16,8 +16,8 @@ use crate::texts::{too_large_line, too_many_line};
 use crate::word::Command;
 use copy_lists::{NoMemory, Text};
 use dsc_split::{Section, SplitError, split};
-use rip_ports::{Failed, Sink, Source};
 use ps_steps::Operators;
+use rip_ports::{Failed, Sink, Source};
 use std::alloc::Global;
 use vm_cells::Cells;
 

@@ -73,7 +73,9 @@ pub fn rip_plain<S: Source, P: Sink, B: Sink>(
         ¬ HasRisen (B.faults back.old) (B.faults back.new) → IsRunOrWanting result }
 {
     match command_of(words) {
-        Some(command) => answer::<S, P, B, AllOperators>(alloc, command, moment, source, pages, back),
+        Some(command) => answer::<S, P, B, AllOperators>(
+            alloc, command, moment, source, pages, back,
+        ),
         None => write(back, usage_line(), Status::Usage),
     }
 }
