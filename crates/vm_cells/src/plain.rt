@@ -3,7 +3,7 @@
 use crate::script::{Held, PLACES, Place, Step, USER_DICT};
 use crate::{Base, Cells};
 use Held::Absent;
-use ps_objects::{Cell, Key, Keys, Loc, NoMemory, SaveName, Shape, Space, Value};
+use ps_objects::{Access, Cell, Key, Keys, Loc, NoMemory, SaveName, Shape, Space, Value};
 
 /// A place, and what it holds.
 #[derive(Clone, Copy)]
