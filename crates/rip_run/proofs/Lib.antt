@@ -2,3 +2,4 @@ mod Answering
 mod Giving
 mod Pieces
 mod Sinks
+mod Progresses

@@ -1,5 +1,5 @@
 //! What is written for a job that was read.
-ghost use Rattle.std.specs.Prelude.{◌≡◌, ◌≢◌, ◌≤◌, ◌⊎◌, length, flat_map, IfOk, IfSome};
+ghost use Rattle.std.specs.Prelude.{◌≡◌, ◌≢◌, ◌≤◌, ◌⊎◌, ℕ, List, length, flat_map, IfOk, IfSome};
 ghost use Rattle.rip_ports.specs.Ports.{HasRisen};
 ghost use Rattle.dsc_split.specs.declared.section.Section.{Section};
 ghost use Rattle.rip_run.specs.Answers.{Answers};

@@ -1,5 +1,5 @@
 //! The run of all sections of a job.
-ghost use Rattle.std.specs.Prelude.{◌≡◌, ◌≢◌, ◌≤◌, ◌⊎◌, length, IfOk, OnErr};
+ghost use Rattle.std.specs.Prelude.{◌≡◌, ◌≢◌, ◌≤◌, ◌⊎◌, [], length, IfOk, OnOk, OnErr};
 ghost use Rattle.ps_execution.specs.Section.{End};
 ghost use Rattle.rip_ports.specs.Ports as port;
 ghost use Rattle.dsc_split.specs.Law.{StandsWithin};
@@ -8,6 +8,7 @@ ghost use Rattle.out_writers.specs.Faults.{HasRisen};
 ghost use Rattle.ps_machine.specs.Refusals.{IsFault};
 ghost use Rattle.ps_machine.specs.Sections.{end_in};
 ghost use Rattle.rip_run.specs.Answers.{Answers};
+ghost use Rattle.rip_run.specs.Texts as lines;
 ghost use Rattle.rip_run.specs.Job.{closed_text, default_settings, progress_of, result_of_progress, status_of};
 ghost use Rattle.rip_run.specs.declared.status.Status.TheVariants.{ReadFault, Usage, WriteFault};
 
@@ -48,6 +49,18 @@ fn status_of(end: SectionEnd) -> Status
     }
 }
 
+/// Says how many pages were shown.
+fn say_done<O: Outlet>(alloc: Global, shown: u64, out: &mut O) -> Result<(), RunRefusal>
+    ensures counted { O.faults out.old ≤ O.faults out.new }
+    ensures failed { IsFault result → HasRisen (O.faults out.old) (O.faults out.new) }
+    ensures said { OnOk result (O.since out.new out.old [] (lines.done_line shown)) }
+    ensures cut { OnErr result (O.cut out.new out.old [] (lines.done_line shown)) }
+{
+    let line = done_line(alloc, shown)?;
+    out.say(line.as_slice())?;
+    Ok(())
+}
+
 /// Runs the sections of a job in sequence on one memory, and says the closing line.
 fn run_all<O: Outlet, T: Operators<Cells>>(
     alloc: Global,
@@ -75,8 +88,7 @@ fn run_all<O: Outlet, T: Operators<Cells>>(
     let done = run_sections::<Cells, O, T>(
         alloc, &settings, moment, job, sections, regs, &mut mem, out,
     )?;
-    let line = done_line(alloc, done.shown)?;
-    out.say(line.as_slice())?;
+    say_done(alloc, done.shown, out)?;
     Ok(status_of(done.end))
 }
 
