@@ -1,5 +1,6 @@
 -- What the sections of a job come to, and the closing line.
-use Rattle.std.proofs.Common.{◌≡◌, ℕ, List, [], ◌∷◌, ◌++◌, length, refl, sym, ap, ◌∙◌, subst, append-nil}
+use Rattle.std.proofs.Common.{◌≡◌, ℕ, List, [], ◌∷◌, ◌++◌, length, Result, Ok, Err, refl, sym, ap, ◌∙◌, subst, append-nil}
+use Rattle.std.specs.Prelude.{IsErrAnd}
 use Rattle.ps_shapes.specs.Sheet.{Sheet}
 use Rattle.ps_objects.specs.declared.settings.Settings.{Settings}
 use Rattle.ps_kinds.specs.declared.regs.Regs.{Regs}
@@ -8,6 +9,9 @@ use Rattle.ps_meaning.specs.Start.{start_memory, start_registers}
 use Rattle.ps_execution.specs.Table.{Table}
 use Rattle.dsc_split.specs.Sections.{sections_of}
 use Rattle.dsc_split.specs.declared.section.Section.{Section}
+use Rattle.ps_machine.specs.Refusals.{IsFault}
+use Rattle.ps_machine.specs.declared.refusal.RunRefusal.{RunRefusal}
+use Rattle.ps_machine.specs.declared.refusal.RunRefusal.TheVariants as refusal
 use Rattle.section_sequence.specs.Running.{Finishes, MayRunAll, sections_from}
 use Rattle.section_sequence.specs.Sequence.{Progress}
 use Rattle.section_sequence.specs.declared.running.Finished.{Finished}
@@ -48,3 +52,8 @@ module _ {O : Type 0} (p q : Progress) (e : p ≡ q) where
       subst (λ (x : Progress). cut n o x.papers (closed_text x)) e
       (subst (λ x. cut n o x (closed_text p)) (append-nil p.papers)
       (joined n m o p.papers [] p.text (done_line (length p.papers)) a (subst (λ k. cut n m [] (done_line k)) s b)))
+
+-- a fault that is passed on was one before
+pub fault_there : {A : Type 0} (r : Result A RunRefusal) (e : RunRefusal) → IsErrAnd r (λ x. x ≡ e) → IsFault r → e ≡ refusal.OutFault
+fault_there (Ok x) e h f = absurd f
+fault_there (Err y) e h f = sym h ∙ f

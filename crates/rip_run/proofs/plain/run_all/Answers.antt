@@ -1,11 +1,11 @@
 -- The sections come to the job's progress, and then comes the closing line.
-use Rattle.std.proofs.Common.{[], ap, ◌∙◌, rules}
+use Rattle.std.proofs.Common.{[], ap, ◌∙◌}
 use Rattle.section_sequence.specs.Running.{sections_from}
 use Rattle.section_sequence.specs.Sequence.{Progress}
 use Rattle.ps_machine.proofs.Advancing.{cut_at_once, refused}
 use Rattle.ps_machine.proofs.Faults.{rose_later}
 use Rattle.rip_run.specs.Job.{closed_text, progress_of, status_of}
-use Rattle.rip_run.proofs.Progresses.{may_run, same_progress, cut_closed, closed}
+use Rattle.rip_run.proofs.Progresses.{may_run, same_progress, cut_closed, closed, fault_there}
 use Rattle.rip_run.proofs.plain.run_all.Goals as goal
 
 pub returns-in_err-mem-clause-cut : goal.returns-in_err-mem-clause-cut
@@ -57,5 +57,5 @@ returns-in_err-say_done-clause-cut g c =
 
 pub returns-in_err-say_done-clause-failed : goal.returns-in_err-say_done-clause-failed
 returns-in_err-say_done-clause-failed g c = λ f.
-    rose_later (g.O.Outlet.faults c.args.out.now) (g.O.Outlet.faults c.run_sections.new.out) (g.O.Outlet.faults c.say_done.new.out)
-    c.in_ok-done.ensures.counted (search rules)
+    rose_later (g.O.Outlet.faults c.args.out.now) (g.O.Outlet.faults c.run_sections.new.out) (g.O.Outlet.faults c.say_done.new.out) c.in_ok-done.ensures.counted
+    (c.in_err-say_done.ensures.failed (fault_there c.from_residual-in_err-say_done.result c.in_err-say_done.field-0.0 c.from_residual-in_err-say_done.ensures.1 f))
