@@ -130,11 +130,11 @@ fn answers_jobs(rt: HostRuntime) -> Result<(), NoMemory> {
     Ok(())
 }
 
-/// A section has 20,000,000 turns, and a procedure that ends with its own name holds no frame.
+/// A page has 20,000,000 turns, and a procedure that ends with its own name holds no frame.
 #[test]
 fn spends_the_turns(rt: HostRuntime) -> Result<(), NoMemory> {
     let alloc = rt.alloc();
-    let job = b"1 = /f { f } def f 2 =";
+    let job = b"%!PS-Adobe-3.0\n/f { f } def\n%%Page: 1 1\n1 = f\n%%Page: 2 2\n2 =\n";
     let call = call(alloc, &["plain"], job, &[], &[])?;
     let told = told(alloc, "1\n", Some(("timeout", "--nostringval--")))?;
     assert_eq!(rt; call.status, Status::JobError { reruns: 0 });
