@@ -21,6 +21,9 @@ const MAX_SECTIONS: u32 = 100_003;
 
 pub const CONTROL_D: u8 = 4;
 
+/// The bytes of a job, at most.
+pub const JOB_LIMIT: usize = 268_435_456;
+
 /// Why a job isn't split.
 #[derive(Clone, Copy, Debug, PartialEq, Eq)]
 pub enum SplitError {
@@ -239,7 +242,7 @@ fn marks_of_job(text: &[u8], start: usize) -> Marks<'_>
 /// The sections of a job.
 #[tactic(auto, using(crate::proofs::Laws::split_within))]
 pub fn split(alloc: Global, job: &[u8]) -> Result<Sections, SplitError>
-    requires { length job.now ≤ 268435456 }
+    requires { length job.now ≤ JOB_LIMIT }
     ensures ok { IfOk result (λ sections. sections ≡ sections_of job.now) }
     ensures few { OnOk result (page_count (sections_of job.now) ≤ MAX_PAGES) }
     ensures within { IfOk result (StandsWithin job.now) }

@@ -13,7 +13,7 @@ mod section;
 mod tests;
 mod words;
 
-pub use cutter::{CONTROL_D, MAX_PAGES, SplitError, begins_with_header, split};
+pub use cutter::{CONTROL_D, JOB_LIMIT, MAX_PAGES, SplitError, begins_with_header, split};
 pub use law::sections_law;
 pub use ps_objects::{NoMemory, SectionKind};
 pub use section::{Section, Sections};

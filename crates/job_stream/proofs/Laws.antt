@@ -9,7 +9,7 @@ use Rattle.std.proofs.lemmas.List.Elements.{filter-append}
 use Rattle.std.proofs.lemmas.List.Splits.{join_with_byte-slice_split, slice_split_none, slice_split_at, slice_split-cons_yes, slice_split-cons_no}
 use Rattle.job_stream.specs.declared.reader.Fed.{Fed}
 use Rattle.job_stream.specs.declared.reader.Fed.TheVariants.{More, Job, Large}
-use Rattle.job_stream.specs.declared.reader.TheConstants.{JOB_LIMIT}
+use Rattle.dsc_split.specs.declared.cutter.TheConstants.{JOB_LIMIT}
 use Rattle.job_stream.specs.Jobs.{is_control_d, is_blank, pieces_of, jobs_among, jobs_of}
 use Rattle.job_stream.specs.Reader.{told}
 use Rattle.job_stream.specs.Law.{IsJoined, IsApart, IsFirst, IsLast, IsTold, answers, is_job}

@@ -4,7 +4,7 @@ use Rattle.std.specs.List.{list_any, position_or_len}
 use Rattle.job_stream.specs.declared.reader.Fed.{Fed}
 use Rattle.job_stream.specs.declared.reader.Fed.TheVariants.{More, Job, Large}
 use Rattle.job_stream.specs.declared.reader.JobReader.{JobReader}
-use Rattle.job_stream.specs.declared.reader.TheConstants.{JOB_LIMIT}
+use Rattle.dsc_split.specs.declared.cutter.TheConstants.{JOB_LIMIT}
 use Rattle.job_stream.specs.Jobs.{is_control_d, is_blank}
 
 -- how many bytes are the front of some: those up to the first Control-D and it, or all where there is none

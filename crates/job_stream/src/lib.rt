@@ -7,6 +7,6 @@ mod reader;
 mod tests;
 
 pub use copy_lists::{NoMemory, Text};
-pub use dsc_split::CONTROL_D;
+pub use dsc_split::{CONTROL_D, JOB_LIMIT};
 pub use law::jobs_law;
-pub use reader::{Fed, Front, JOB_LIMIT, JobReader};
+pub use reader::{Fed, Front, JobReader};

@@ -5,13 +5,10 @@ ghost use Rattle.memchr.specs.Find.{is_byte};
 ghost use Rattle.job_stream.specs.Jobs.{is_white, is_blank, is_control_d};
 
 use copy_lists::{NoMemory, Text};
-use dsc_split::CONTROL_D;
+use dsc_split::{CONTROL_D, JOB_LIMIT};
 use memchr::memchr;
 use std::alloc::Global;
 use std::mem;
-
-/// The bytes of a job, at most.
-pub const JOB_LIMIT: usize = 268_435_456;
 
 /// What feeding a reader tells.
 #[derive(Drop)]

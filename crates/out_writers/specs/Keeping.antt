@@ -20,9 +20,11 @@ longer_front : {A : Type 0} (n o a b : List A) → GrowsByFront n o a → GrowsB
 longer_front n o a b (k, l, q) =
     (k, (rw length-append (omega arith)), q ∙ ap (λ s. o ++ s) (sym (take-append-le k a b l)))
 
+-- an outlet has kept nothing since itself
 pub nothing : (o : Kept) → KeepsAll o o [] []
 nothing o = record { pages = sym (append-nil o.pages); said = sym (append-nil o.text) }
 
+-- what was kept, and then more, is kept together
 pub joined : (n m o : Kept) (papers more : List Sheet) (text rest : List ℕ) →
     KeepsAll m o papers text → KeepsAll n m more rest → KeepsAll n o (papers ++ more) (text ++ rest)
 joined n m o papers more text rest a b = record {
@@ -30,6 +32,7 @@ joined n m o papers more text rest a b = record {
   said = grown n.text m.text o.text text rest a.said b.said;
 }
 
+-- what was kept, and then a front of more, is a front of both
 pub joined_cut : (n m o : Kept) (papers more : List Sheet) (text rest : List ℕ) →
     KeepsAll m o papers text → KeepsFront n m more rest → KeepsFront n o (papers ++ more) (text ++ rest)
 joined_cut n m o papers more text rest a b = record {
@@ -37,12 +40,14 @@ joined_cut n m o papers more text rest a b = record {
   said = grown_front n.text m.text o.text text rest a.said b.said;
 }
 
+-- all of it is a front of it
 pub whole : (n o : Kept) (papers : List Sheet) (text : List ℕ) → KeepsAll n o papers text → KeepsFront n o papers text
 whole n o papers text a = record {
   pages = whole_front n.pages o.pages papers a.pages;
   said = whole_front n.text o.text text a.said;
 }
 
+-- a front of it is a front of more
 pub longer : (n o : Kept) (papers more : List Sheet) (text rest : List ℕ) →
     KeepsFront n o papers text → KeepsFront n o (papers ++ more) (text ++ rest)
 longer n o papers more text rest a = record {

@@ -27,6 +27,7 @@ text_of_end Stopped r = stop_text r
 text_of_end Quitted r = []
 text_of_end OutOfTurns r = timeout_text
 
+-- what is said of a section's end, by its report
 abbrev pub end_text : SectionResult → List ℕ
 end_text r = text_of_end r.end r.report
 

@@ -19,10 +19,15 @@ use Rattle.ps_machine.specs.declared.ending.Closing.{Closing}
 use Rattle.ps_machine.specs.declared.section.Ran.{Ran}
 use Rattle.ps_machine.specs.declared.section.SectionEnd.{SectionEnd}
 use Rattle.ps_machine.specs.declared.section.SectionEnd.TheVariants as end
+use Rattle.ps_machine.specs.declared.section.SectionInput.{SectionInput}
 
 -- a section with this text, over a table
 abbrev pub section_of : Table → List ℕ → Settings → ℕ → ℕ → SectionKind → Regs → Tree SectionResult
 section_of T text settings moment number kind regs = section_meaning (program T text) settings moment number kind regs
+
+-- a section that runs from such an input
+abbrev pub section_by : Table → SectionInput → Regs → Tree SectionResult
+section_by T i R = section_of T i.text.now i.settings.now i.moment i.number i.kind R
 
 -- an end, as the machine tells it
 abbrev pub end_in : End → SectionEnd

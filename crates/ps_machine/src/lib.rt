@@ -8,4 +8,4 @@ mod running;
 mod section;
 
 pub use refusal::RunRefusal;
-pub use section::{Ran, SectionEnd, run_section};
+pub use section::{Ran, SectionEnd, SectionInput, run_section};

@@ -3,7 +3,7 @@ ghost use Rattle.std.specs.Prelude.{◌≡◌, ◌≤◌, IfOk, OnErr};
 ghost use Rattle.ps_execution.specs.Section as spec;
 ghost use Rattle.out_writers.specs.Faults.{HasRisen};
 ghost use Rattle.ps_machine.specs.Refusals.{IsFault};
-ghost use Rattle.ps_machine.specs.Sections.{section_of, RanTo, Wrote};
+ghost use Rattle.ps_machine.specs.Sections.{section_by, RanTo, Wrote};
 ghost use Rattle.ps_machine.specs.Starting.{MayRun};
 
 use crate::RunRefusal;
@@ -15,6 +15,16 @@ use ps_kinds::{Frames, Regs, SaveName, SectionKind, Settings, State};
 use ps_steps::Operators;
 use std::alloc::Global;
 use vm_mem::Mem;
+
+/// What a section runs from, beside registers and memory: its number, kind and text, by these settings and at this moment.
+#[derive(Clone, Copy)]
+pub struct SectionInput<'a> {
+    pub settings: &'a Settings,
+    pub moment: u64,
+    pub number: u32,
+    pub kind: SectionKind,
+    pub text: &'a [u8],
+}
 
 /// How a section ends.
 #[derive(Clone, Copy, Debug, PartialEq, Eq)]
@@ -42,22 +52,16 @@ pub struct Ran {
 }
 
 /// The state before a section's first byte.
-fn fresh_state(
-    alloc: Global,
-    settings: &Settings,
-    moment: u64,
-    number: u32,
-    kind: SectionKind,
-    regs: Regs,
-) -> State
-    ensures { result ≡ spec.fresh_state settings.now moment number kind regs }
+fn fresh_state(alloc: Global, input: SectionInput<'_>, regs: Regs) -> State
+    ensures { result ≡
+        spec.fresh_state input.settings.now input.moment input.number input.kind regs }
 {
     State {
         regs,
-        settings: *settings,
-        moment,
-        section: number,
-        kind,
+        settings: *input.settings,
+        moment: input.moment,
+        section: input.number,
+        kind: input.kind,
         count: 0,
         turns: 0,
         units: 0,
@@ -76,28 +80,22 @@ fn fresh_state(
 /// `OutFault` only where the outlet's count of faults has risen. After a refusal the memory may only be dropped.
 pub fn run_section<M: Mem, O: Outlet, T: Operators<M>>(
     alloc: Global,
-    settings: &Settings,
-    moment: u64,
-    number: u32,
-    kind: SectionKind,
-    text: &[u8],
+    input: SectionInput<'_>,
     regs: Regs,
     mem: &mut M,
     out: &mut O,
 ) -> Result<Ran, RunRefusal>
-    requires positive { 1 ≤ number }
-    requires may_run { MayRun number regs (M.log mem.old).view }
+    requires positive { 1 ≤ input.number }
+    requires may_run { MayRun input.number regs (M.log mem.old).view }
     ensures counted { O.faults out.old ≤ O.faults out.new }
     ensures failed { IsFault result → HasRisen (O.faults out.old) (O.faults out.new) }
-    ensures runs { IfOk result (λ ran. RanTo O.since
-        (section_of T.table text.now settings.now moment number kind regs)
+    ensures runs { IfOk result (λ ran. RanTo O.since (section_by T.table input regs)
         (M.log mem.old) ran (M.log mem.new) out.new out.old) }
-    ensures cut { OnErr result (Wrote O.cut out.new out.old
-        (section_of T.table text.now settings.now moment number kind regs)
+    ensures cut { OnErr result (Wrote O.cut out.new out.old (section_by T.table input regs)
         (M.log mem.old).view) }
 {
-    let mut state = fresh_state(alloc, settings, moment, number, kind, regs);
-    match run::<M, O, T>(alloc, text, &mut state, mem, out)? {
+    let mut state = fresh_state(alloc, input, regs);
+    match run::<M, O, T>(alloc, input.text, &mut state, mem, out)? {
         Halt::Outer { save } => Ok(Ran {
             regs: state.regs,
             end: SectionEnd::Outer { save },

@@ -15,14 +15,11 @@ use crate::status::Status;
 use crate::texts::{too_large_line, too_many_line};
 use crate::word::Command;
 use copy_lists::{NoMemory, Text};
-use dsc_split::{Section, SplitError, split};
+use dsc_split::{JOB_LIMIT, Section, SplitError, split};
 use ps_steps::Operators;
 use rip_ports::{Failed, Sink, Source};
 use std::alloc::Global;
 use vm_cells::Cells;
-
-/// The most bytes of a job.
-pub(crate) const MAX_BYTES: usize = 268_435_456;
 
 #[tactic(auto, using(crate::proofs::Answering::read_answers, crate::proofs::Answering::too_large_answers, crate::proofs::Answering::whatever_read, crate::proofs::Answering::fault_answers, crate::proofs::Answering::wanting_answers))]
 /// Reads the job and writes the command's result.
@@ -44,7 +41,7 @@ pub(crate) fn answer<S: Source, P: Sink, B: Sink, T: Operators<Cells>>(
         HasRisen (B.faults back.old) (B.faults back.new) }
     ensures words { result ≢ Usage }
 {
-    match read_job(alloc, source, MAX_BYTES) {
+    match read_job(alloc, source, JOB_LIMIT) {
         Ok(job) => answer_job::<P, B, T>(alloc, command, moment, job.as_slice(), pages, back),
         Err(Unread::TooLong) => write(back, too_large_line(), Status::TooLarge),
         Err(Unread::Fault) => Status::ReadFault,
@@ -62,7 +59,7 @@ fn answer_job<P: Sink, B: Sink, T: Operators<Cells>>(
     pages: &mut P,
     back: &mut B,
 ) -> Status
-    requires { length job.now ≤ MAX_BYTES }
+    requires { length job.now ≤ JOB_LIMIT }
     ensures answers { Answers (result_of_read T.table command moment job.now) result
         (P.holds pages.old) (P.holds pages.new) (B.holds back.old) (B.holds back.new) }
     ensures write_fault { result ≡ WriteFault →

@@ -10,11 +10,11 @@ ghost use Rattle.rip_run.specs.declared.status.Status.TheVariants.{ReadFault, To
 ghost use Rattle.rip_run.specs.declared.word.Command.{Command};
 ghost use Rattle.dsc_split.specs.Sections.{page_count, sections_of};
 
-use crate::answer::{MAX_BYTES, answer, write};
+use crate::answer::{answer, write};
 use crate::status::Status;
 use crate::texts::usage_line;
 use crate::word::{Word, command_of};
-use dsc_split::MAX_PAGES;
+use dsc_split::{JOB_LIMIT, MAX_PAGES};
 use operator_table::AllOperators;
 use rip_ports::{Sink, Source};
 use std::alloc::Global;
@@ -53,7 +53,7 @@ pub fn rip_plain<S: Source, P: Sink, B: Sink>(
 
     // A job is refused for its size or its pages where it has too many.
     ensures too_large { result ≡ TooLarge →
-        IfSome (S.left source.old) (λ job. MAX_BYTES < length job) }
+        IfSome (S.left source.old) (λ job. JOB_LIMIT < length job) }
     ensures too_many { (count : ℕ) → result ≡ TooManyPages count →
         IfSome (S.left source.old) (λ job.
         (count ≡ page_count (sections_of job)) × (MAX_PAGES < count)) }

@@ -21,7 +21,7 @@ use ps_machine::{RunRefusal, SectionEnd};
 use ps_start::start_registers;
 use ps_steps::Operators;
 use rip_ports::Sink;
-use section_sequence::run_sections;
+use section_sequence::{JobInput, run_sections};
 use std::alloc::Global;
 use vm_cells::{Base, Cells};
 
@@ -85,9 +85,12 @@ fn run_all<O: Outlet, T: Operators<Cells>>(
     let settings = default_settings();
     let mut mem = Cells::start(alloc, &settings)?;
     let regs = start_registers(alloc, &settings)?;
-    let done = run_sections::<Cells, O, T>(
-        alloc, &settings, moment, job, sections, regs, &mut mem, out,
-    )?;
+    let input = JobInput {
+        settings: &settings,
+        moment,
+        text: job,
+    };
+    let done = run_sections::<Cells, O, T>(alloc, input, sections, regs, &mut mem, out)?;
     say_done(alloc, done.shown, out)?;
     Ok(status_of(done.end))
 }

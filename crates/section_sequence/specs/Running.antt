@@ -14,6 +14,7 @@ use Rattle.ps_machine.specs.Sections.{end_in}
 use Rattle.ps_machine.specs.declared.refusal.RunRefusal.{RunRefusal}
 use Rattle.ps_machine.specs.declared.section.Ran.{Ran}
 use Rattle.section_sequence.specs.declared.running.Finished.{Finished}
+use Rattle.section_sequence.specs.declared.running.JobInput.{JobInput}
 
 -- registers, end and memory are those of the progress, and an outlet was given its papers and its text
 pub record Reaches {O : Type 0} (since : Writing O) (p : Progress) (ran : Ran) (M : Memory) (new old : O) : Type 0 where
@@ -46,6 +47,14 @@ pub record Finishes {O : Type 0} (since : Writing O) (p : Progress) (done : Fini
 -- what some sections of a job come to, from these registers and this memory
 abbrev pub sections_from : Table → Settings → ℕ → List ℕ → List Section → Regs → Memory → Progress
 sections_from T settings moment job xs R M = sequence_from (job_of T settings moment job) xs (begun R M)
+
+-- a job that runs from such an input, over a table
+abbrev pub job_by : Table → JobInput → Job
+job_by T j = job_of T j.settings.now j.moment j.text.now
+
+-- what some of its sections come to, from these registers and this memory
+abbrev pub sections_by : Table → JobInput → List Section → Regs → Memory → Progress
+sections_by T j xs R M = sections_from T j.settings.now j.moment j.text.now xs R M
 
 -- sections that are in order, the first of which may run
 pub record MayRunAll (xs : List Section) (R : Regs) (M : Memory) : Type 0 where

@@ -6,7 +6,7 @@ ghost use Rattle.section_sequence.specs.Between.{StartsLaw, EndsLaw, InOrderLaw,
 mod page_counter;
 mod running;
 
-pub use running::{Finished, run_sections};
+pub use running::{Finished, JobInput, run_sections};
 
 /// Before each section of a job, registers and memory are such that it may run: at the start, and after each section, however it
 /// has ended.

@@ -7,8 +7,8 @@ use Rattle.section_sequence.proofs.running.run_sections.Given as goal
 
 abbrev pub invariant-loop-section : goal.invariant-loop-section
 invariant-loop-section g l =
-    let J = job_of g.T.Operators.table l.fn.settings l.fn.moment l.fn.job in
-    let whole = sections_from g.T.Operators.table l.fn.settings l.fn.moment l.fn.job l.fn.sections l.fn.regs (g.M.Mem.log l.fn.mem).view in
+    let J = job_of g.T.Operators.table l.fn.job.settings.now l.fn.job.moment l.fn.job.text.now in
+    let whole = sections_from g.T.Operators.table l.fn.job.settings.now l.fn.job.moment l.fn.job.text.now l.fn.sections l.fn.regs (g.M.Mem.log l.fn.mem).view in
     record {
       counted : g.O.Outlet.faults l.fn.out ≤ g.O.Outlet.faults l.counter.out.now;
       same : l.counter.out.ghost_name ≡ l.initial.counter.out.ghost_name;
