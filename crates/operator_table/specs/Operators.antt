@@ -6,14 +6,19 @@ use Rattle.ps_kinds.specs.declared.frame.Frame.{Frame}
 use Rattle.ps_kinds.specs.declared.show.ShowRun.{ShowRun}
 use Rattle.ps_kinds.specs.declared.state.State.{State}
 use Rattle.ps_memory.specs.Tree.{fail}
+use Rattle.ps_operator.specs.Registers.{ops}
 use Rattle.ps_operator.specs.Tree.{Ask}
 use Rattle.ps_execution.specs.Lawful.{LawfulTable}
 use Rattle.ps_execution.specs.Table.{Leaving, Table}
 use Rattle.stack_arith.specs.Operators as stack_arith
 use Rattle.text_ops.specs.Operators as text_ops
 use Rattle.dict_ops.specs.Operators as dict_ops
+use Rattle.array_ops.specs.Operators as array_ops
+use Rattle.object_ops.specs.Operators as object_ops
 use Rattle.control_ops.specs.Operators as control_ops
 use Rattle.control_ops.specs.Rounds as rounds
+use Rattle.file_ops.specs.Operators as file_ops
+use Rattle.save_restore.specs.Operators as save_restore
 use Rattle.error_ops.specs.Operators as error_ops
 
 -- ---- operators
@@ -25,13 +30,22 @@ pub record Family : Type 0 where
   pub last : ℕ
   pub run : ℕ → List ℕ → State → Ask
 
+-- where an operator is one of several types of containers, a dictionary is for the operators on dictionaries, and all else for those on
+-- arrays and strings
+abbrev pub on_container : ℕ → State → Ask
+on_container n s = cond (dict_ops.is_on_dict n (ops s)) (dict_ops.run n s) (array_ops.run n s)
+
 -- the crates that are there, in the order of their operators
 abbrev pub families : List Family
 families =
     record { first = at.POP; last = at.BITSHIFT; run = λ n text s. stack_arith.run n s }
-    ∷ record { first = at.STRING; last = at.EQUALS_SIGN; run = λ n text s. text_ops.run n s }
-    ∷ record { first = at.DICT; last = at.DICTSTACK; run = λ n text s. dict_ops.run n s }
+    ∷ record { first = at.STRING; last = at.PSTACK; run = λ n text s. text_ops.run n s }
+    ∷ record { first = at.DICT; last = at.DICTSTACK; run = λ n text s. on_container n s }
+    ∷ record { first = at.ARRAY; last = at.ASTORE; run = λ n text s. array_ops.run n s }
+    ∷ record { first = at.TYPE; last = at.BIND; run = λ n text s. object_ops.run n s }
     ∷ record { first = at.EXEC; last = at.STOPPED; run = λ n text s. control_ops.run n s }
+    ∷ record { first = at.CURRENTFILE; last = at.FLUSH; run = λ n text s. file_ops.run n text s }
+    ∷ record { first = at.SAVE; last = at.USERTIME; run = λ n text s. save_restore.run n s }
     ∷ record { first = at.FIRST_DEFAULT_ENTRY; last = at.OPERATOR_COUNT - 1; run = λ n text s. error_ops.run n s }
     ∷ []
 

@@ -29,9 +29,15 @@ impl<M: Mem> Operators<M> for AllOperators {
     fn run(op: Op, text: &[u8], state: &mut State, mem: &mut M) -> Result<Act, NoMemory> {
         match op.index() {
             places::POP..=places::BITSHIFT => stack_arith::run(op, text, state, mem),
-            places::STRING..=places::EQUALS_SIGN => text_ops::run(op, text, state, mem),
-            places::DICT..=places::DICTSTACK => dict_ops::run(op, text, state, mem),
+            places::STRING..=places::PSTACK => text_ops::run(op, text, state, mem),
+            places::DICT..=places::DICTSTACK if dict_ops::belongs(op, state) => {
+                dict_ops::run(op, text, state, mem)
+            }
+            places::DICT..=places::ASTORE => array_ops::run(op, text, state, mem),
+            places::TYPE..=places::BIND => object_ops::run(op, text, state, mem),
             places::EXEC..=places::STOPPED => control_ops::run(op, text, state, mem),
+            places::CURRENTFILE..=places::FLUSH => file_ops::run(op, text, state, mem),
+            places::SAVE..=places::USERTIME => save_restore::run(op, text, state, mem),
             places::FIRST_DEFAULT_ENTRY.. => error_ops::run(op, text, state, mem),
             _ => Ok(Act::Fail(ErrorName::Undefined)),
         }
