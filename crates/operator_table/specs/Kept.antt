@@ -8,6 +8,7 @@ use Rattle.ps_meaning.specs.Answer.{act_done, newest, Effect}
 use Rattle.ps_meaning.specs.Ready.{Fits}
 use Rattle.ps_meaning.specs.Sound.{World}
 use Rattle.ps_operator.specs.Lawful.{Keeps, IsLawfulIn}
+use Rattle.ps_operator.specs.Registers.{ops}
 use Rattle.ps_operator.specs.Tree.{Ask}
 use Rattle.ps_execution.specs.Execution.{on}
 use Rattle.ps_execution.specs.Frames.{costs}
@@ -18,10 +19,16 @@ use Rattle.ps_table.proofs.Entry.{kept_table}
 use Rattle.stack_arith.proofs.Keeping as stack_arith
 use Rattle.text_ops.proofs.Keeping as text_ops
 use Rattle.dict_ops.proofs.Keeping as dict_ops
+use Rattle.dict_ops.specs.Operators as dicts
+use Rattle.array_ops.proofs.Keeping as array_ops
+use Rattle.array_ops.specs.Operators as arrays
+use Rattle.object_ops.proofs.Keeping as object_ops
 use Rattle.control_ops.proofs.Keeping as control_ops
 use Rattle.control_ops.proofs.StepKeeping as steps
+use Rattle.file_ops.proofs.Keeping as file_ops
+use Rattle.save_restore.proofs.Keeping as save_restore
 use Rattle.error_ops.proofs.Keeping as error_ops
-use Rattle.operator_table.specs.Operators.{Family, families, is_of, run_among, Walker, walkers, step_among, table}
+use Rattle.operator_table.specs.Operators.{on_container, Family, families, is_of, run_among, Walker, walkers, step_among, table}
 
 -- ---- operators
 
@@ -37,9 +44,24 @@ among_keeps : (fs : List Family) → AllByRecursion IsKept fs → (n : ℕ) → 
 among_keeps [] h n text s W f = record { lawful = tt }
 among_keeps (t ∷ ts) h n text s W f = either_keeps (is_of n t) (t.run n text s) (run_among ts n text s) text 4 s.frames s W (h.0 n text s W f) (among_keeps ts h.1 n text s W f)
 
+-- whatever the container is
+container_keeps : (n : ℕ) → IsLawfulIn (λ text s. on_container n s)
+container_keeps n text s W f =
+    either_keeps (dicts.is_on_dict n (ops s)) (dicts.run n s) (arrays.run n s) text 4 s.frames s W (dict_ops.run_keeps n text s W f) (array_ops.run_keeps n text s W f)
+
 -- the law of each crate, in the order of the families
 families_keep : AllByRecursion IsKept families
-families_keep = (λ n text. stack_arith.run_keeps n text, (λ n text. text_ops.run_keeps n text, (λ n text. dict_ops.run_keeps n text, (λ n text. control_ops.run_keeps n text, (λ n text. error_ops.run_keeps n text, tt)))))
+families_keep = (
+  λ n text. stack_arith.run_keeps n text,
+  (λ n text. text_ops.run_keeps n text,
+  (λ n text. container_keeps n text,
+  (λ n text. array_ops.run_keeps n text,
+  (λ n text. object_ops.run_keeps n text,
+  (λ n text. control_ops.run_keeps n text,
+  (λ n text. file_ops.run_keeps n text,
+  (λ n text. save_restore.run_keeps n text,
+  (λ n text. error_ops.run_keeps n text, tt)))))))),
+)
 
 -- ---- frames
 

@@ -1,6 +1,10 @@
 //! What the table does: an operator's crate is found by the operator's place in the list of operators.
-ghost use Rattle.std.specs.Prelude.{◌≡◌};
+ghost use Rattle.std.specs.Prelude.{◌≡◌, true};
+ghost use Rattle.ps_meaning.specs.Ready.{ReadyIn};
+ghost use Rattle.ps_operator.specs.Owes.{Runs};
 ghost use Rattle.control_ops.specs.Rounds.{walks_in};
+ghost use Rattle.dict_ops.specs.Operators as dicts;
+ghost use Rattle.operator_table.specs.Operators.{on_container};
 
 use ps_kinds::{Act, ErrorName, Frames, NoMemory, Op, ShowRun, State};
 use ps_names::places;
@@ -20,6 +24,25 @@ fn is_control(frames: &Frames) -> bool
     !frames.is_empty() && control_ops::walks(frames.at(0))
 }
 
+/// Runs an operator on dictionaries, or one of the same name on arrays and strings, where the container is no dictionary.
+#[tactic(auto, using(crate::proofs::Containers::on_dictionary, crate::proofs::Containers::on_array, crate::proofs::Containers::is_array_too))]
+fn run_on_container<M: Mem>(
+    op: Op,
+    text: &[u8],
+    state: &mut State,
+    mem: &mut M,
+) -> Result<Act, NoMemory>
+    requires offered { dicts.is_offered op ≡ true }
+    requires ready { ReadyIn text.now state.old (M.log mem.old).view }
+    ensures { Runs (on_container op) state.old (M.log mem.old) result state.new (M.log mem.new) }
+{
+    if dict_ops::belongs(op, state) {
+        dict_ops::run(op, text, state, mem)
+    } else {
+        array_ops::run(op, text, state, mem)
+    }
+}
+
 impl<M: Mem> Operators<M> for AllOperators {
     ghost use Rattle.operator_table.specs.Operators as spec;
     ghost use Rattle.operator_table.specs.Kept.{table_lawful};
@@ -30,10 +53,8 @@ impl<M: Mem> Operators<M> for AllOperators {
         match op.index() {
             places::POP..=places::BITSHIFT => stack_arith::run(op, text, state, mem),
             places::STRING..=places::PSTACK => text_ops::run(op, text, state, mem),
-            places::DICT..=places::DICTSTACK if dict_ops::belongs(op, state) => {
-                dict_ops::run(op, text, state, mem)
-            }
-            places::DICT..=places::ASTORE => array_ops::run(op, text, state, mem),
+            places::DICT..=places::DICTSTACK => run_on_container(op, text, state, mem),
+            places::ARRAY..=places::ASTORE => array_ops::run(op, text, state, mem),
             places::TYPE..=places::BIND => object_ops::run(op, text, state, mem),
             places::EXEC..=places::STOPPED => control_ops::run(op, text, state, mem),
             places::CURRENTFILE..=places::FLUSH => file_ops::run(op, text, state, mem),
