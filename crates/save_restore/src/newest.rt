@@ -19,7 +19,8 @@ fn cell_newer(save: SaveName, cell: Option<Cell>) -> bool
     }
 }
 
-/// Whether an object is a local composite one that was made after a save, so that a restore of the save takes its value away.
+/// Whether an object is a local composite one that was made after a save, so that a restore of the save takes its value away
+/// (section 3.7 of the language manual: memory management).
 pub fn newer(object: &Object, save: SaveName) -> bool
     ensures { result ≡ spec.object_newer save object.now }
 {

@@ -36,8 +36,8 @@ fn run_done<M: Mem>(op: Op, state: &mut State, mem: &mut M) -> Result<(), Refusa
     }
 }
 
-/// Runs an operator of this crate. A refusal is told as `Act::Fail`, and changes nothing; so is a restore of a save that the memory
-/// didn't open, as `Act::Outer`.
+/// Runs an operator of this crate. A refusal is told as `Act::Fail`, and a restore of a save that the memory's run didn't open as
+/// `Act::Outer`: neither changes anything.
 #[tactic(auto, using(ps_operator::proofs::Then::told_done_gives, ps_operator::proofs::Then::told_gives))]
 pub fn run<M: Mem>(op: Op, text: &[u8], state: &mut State, mem: &mut M) -> Result<Act, NoMemory>
     requires belongs { spec.belongs op ≡ true }
