@@ -1,0 +1,4 @@
+pub mod Modes
+pub mod Operators
+pub mod Restoring
+pub mod Saving
