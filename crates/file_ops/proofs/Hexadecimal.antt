@@ -1,5 +1,5 @@
 -- Steps of the reading of hexadecimal digits.
-use Rattle.std.proofs.Common.{◌≡◌, ℕ, zero, suc, ◌+◌, ◌<◌, ◌≤◌, Bool, true, false, cond, nat_lt, List, [], ◌∷◌, ◌++◌, drop, length, Option, Some, None, slice_get, refl, sym, ap, ◌∙◌, arith}
+use Rattle.std.proofs.Common.{◌≡◌, ℕ, suc, ◌+◌, ◌<◌, ◌≤◌, Bool, true, false, cond, nat_lt, List, [], ◌∷◌, ◌++◌, drop, length, Option, Some, None, slice_get, refl, sym, ap, ◌∙◌, arith}
 use Rattle.ps_operator.proofs.LookSteps.{drop_at_get}
 use Rattle.file_ops.specs.Reading.{digit_of, with_digit, with_byte, hex_from}
 use Rattle.file_ops.specs.declared.reading.Hex.{Hex}

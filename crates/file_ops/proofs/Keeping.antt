@@ -1,15 +1,13 @@
 -- Each operator keeps a state that fits: its tree again, with what fits beside each look and end.
-use Rattle.std.proofs.Common.{◌≡◌, ◌≢◌, ℕ, zero, suc, ◌+◌, ◌-◌, ◌<◌, ◌≤◌, Bool, true, false, cond, ◌&&◌, nat_eq, nat_lt, List, [], ◌∷◌, drop, take, length, slice_get, Option, Some, None, Result, Ok, Err, refl, sym, ap, ◌∙◌, subst, arith}
+use Rattle.std.proofs.Common.{◌≡◌, ◌≢◌, ℕ, zero, suc, ◌+◌, ◌-◌, ◌<◌, ◌≤◌, Bool, true, false, cond, ◌&&◌, nat_eq, nat_lt, List, [], ◌∷◌, drop, take, length, slice_get, Option, Some, None, Ok, refl, sym, ◌∙◌, subst, arith}
 use Rattle.std.specs.Bool.{⊤}
 use Rattle.std.specs.List.{AllByRecursion}
-use Rattle.ps_names.specs.declared.error_name.ErrorName.{ErrorName}
 use Rattle.ps_names.specs.declared.error_name.ErrorName.TheVariants.{Undefined}
-use Rattle.ps_objects.specs.Operands.{needed, room_for, object_at, file_at, string_of, readable_at}
+use Rattle.ps_objects.specs.Operands.{needed, room_for, object_at, file_at, readable_at}
 use Rattle.ps_objects.specs.Object.{cell_named}
 use Rattle.ps_objects.specs.declared.object.Kind.{Kind}
 use Rattle.ps_objects.specs.declared.object.Kind.TheVariants as kind
 use Rattle.ps_objects.specs.declared.object.Object.{Object}
-use Rattle.ps_objects.specs.declared.objects.Interval.{Interval}
 use Rattle.ps_objects.specs.declared.place.Shape.{Shape}
 use Rattle.ps_objects.specs.declared.place.Shape.TheVariants as shape
 use Rattle.ps_kinds.specs.declared.state.State.{State}
@@ -19,14 +17,13 @@ use Rattle.ps_meaning.specs.Answer.{names_taken}
 use Rattle.ps_meaning.specs.Fits.{Shapes, lies_within, takes, FitsCell, FitsObject}
 use Rattle.ps_meaning.specs.Ready.{Fits}
 use Rattle.ps_meaning.specs.Sound.{World, Lawful}
-use Rattle.ps_operator.specs.Keys.{bytes_of}
 use Rattle.ps_operator.specs.Lawful.{HasBytes, Leaves, Changes, Lawfully, Keeps, IsLawfulIn}
 use Rattle.ps_operator.specs.Operators.{Operators, run_in}
 use Rattle.ps_operator.specs.Registers.{ops, literal, quiet}
 use Rattle.ps_operator.specs.Storing.{byte_stores}
-use Rattle.ps_operator.specs.Tree.{Ask, read, look_then}
+use Rattle.ps_operator.specs.Tree.{Ask}
 use Rattle.ps_operator.proofs.Fitting.{Fit, drop_fits, object_fits, string_fits, string_kind}
-use Rattle.ps_operator.proofs.Lawful.{AreBytes, read_keeps, bytes_keeps, leaves_keeps}
+use Rattle.ps_operator.proofs.Lawful.{read_keeps, bytes_keeps, leaves_keeps}
 use Rattle.ps_operator.proofs.Running.{◌▹◌}
 use Rattle.ps_operator.proofs.StoreSteps.{bytes_take_none}
 use Rattle.ps_operator.proofs.Storing.{bytes_change}
@@ -37,8 +34,8 @@ use Rattle.ps_execution.proofs.Gather.{read_law}
 use Rattle.file_ops.specs.Files.{is_own, own, moved, moves, currentfile, status, number_told, bytesavailable, byte_told, read_, to_end, flush}
 use Rattle.file_ops.specs.Operators.{operators, run}
 use Rattle.file_ops.specs.Parts.{target_of, some_room, piece, are_bytes, told, fills}
-use Rattle.file_ops.specs.Reading.{rest_of, tells, readstring, hex_from, no_hex, tells_hex, readhexstring, line_length, end_length, line_room, tells_line, readline}
-use Rattle.file_ops.specs.Tokens.{source_kind, source_of, scan_then, takes as ends_taking, file_spelt, file_ends, left_of, string_spelt, string_ends, token_in, token}
+use Rattle.file_ops.specs.Reading.{rest_of, readstring, hex_from, no_hex, readhexstring, line_length, end_length, line_room, tells_line, readline}
+use Rattle.file_ops.specs.Tokens.{source_kind, source_of, scan_then, file_spelt, file_ends, left_of, string_spelt, string_ends, token_in, token}
 use Rattle.file_ops.specs.declared.parts.Whole.{Whole}
 use Rattle.file_ops.specs.declared.tokens.Source.{Source}
 use Rattle.file_ops.specs.declared.tokens.Source.TheVariants as source

@@ -1,5 +1,5 @@
 -- Steps of the search for a line end.
-use Rattle.std.proofs.Common.{◌≡◌, ℕ, zero, suc, ◌+◌, ◌-◌, ◌<◌, ◌≤◌, Bool, true, false, cond, ◌&&◌, nat_eq, nat_lt, List, [], ◌∷◌, drop, length, Some, slice_get, Result, Ok, Err, refl, sym, ap, ◌∙◌, arith}
+use Rattle.std.proofs.Common.{◌≡◌, ℕ, suc, ◌+◌, ◌<◌, ◌≤◌, Bool, true, false, cond, ◌&&◌, nat_eq, nat_lt, List, [], ◌∷◌, drop, length, Some, slice_get, Result, Ok, Err, refl, ap, ◌∙◌, arith}
 use Rattle.ps_names.specs.declared.error_name.ErrorName.{ErrorName}
 use Rattle.ps_names.specs.declared.error_name.ErrorName.TheVariants.{RangeCheck}
 use Rattle.ps_operator.proofs.LookSteps.{drop_at_get}

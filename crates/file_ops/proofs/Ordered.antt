@@ -1,7 +1,7 @@
 -- The cells of an object that is read take their names in order.
-use Rattle.std.proofs.Common.{◌≡◌, ℕ, zero, suc, ◌+◌, Bool, true, false, cond, ◌&&◌, nat_lt, nat_le, List, [], ◌∷◌, ◌++◌, length, reverse, refl, sym, ap, ◌∙◌, subst, arith}
+use Rattle.std.proofs.Common.{◌≡◌, ℕ, zero, suc, ◌+◌, Bool, true, false, cond, ◌&&◌, nat_lt, nat_le, List, [], ◌∷◌, ◌++◌, length, reverse, refl, sym, ap, subst, arith}
 use Rattle.std.specs.Bool.{⊤}
-use Rattle.ps_names.specs.declared.error_name.ErrorName.TheVariants.{InvalidAccess, LimitCheck, SyntaxError, Undefined, VmError}
+use Rattle.ps_names.specs.declared.error_name.ErrorName.TheVariants.{InvalidAccess, LimitCheck, Undefined, VmError}
 use Rattle.ps_objects.specs.Object.{cell_named, whole_of}
 use Rattle.ps_objects.specs.declared.cell.Cell.{Cell}
 use Rattle.ps_objects.specs.declared.key.Key.{Key}
@@ -17,7 +17,7 @@ use Rattle.ps_memory.specs.Tree.{Change, puts, makes, opens, Application, done, 
 use Rattle.ps_meaning.specs.Answer.{names_taken}
 use Rattle.ps_meaning.specs.Budgets.{unit_budget}
 use Rattle.ps_meaning.specs.Start.{literal}
-use Rattle.ps_execution.specs.Gather.{object, bad, nothing, Scanned, Gathering, scanned, executable, next_cell, stores_items, stores_bytes, with_array, with_string, body_object, string_units, names_local, Onward, complete_in, complete, complete_value_in, complete_value, gather_string, open_brace, close_in, close_brace, end_in, gather_token, gather_scan, gather_from, gather}
+use Rattle.ps_execution.specs.Gather.{bad, Scanned, Gathering, scanned, executable, next_cell, stores_items, stores_bytes, with_array, with_string, body_object, string_units, names_local, Onward, complete_in, complete, complete_value_in, complete_value, gather_string, open_brace, close_in, end_in, gather_token, gather_scan, gather_from, gather}
 use Rattle.ps_execution.specs.Objects.{found_in, searches}
 use Rattle.ps_scan.specs.Token.{token_at}
 use Rattle.ps_scan.specs.declared.tokens.Scan.{Scan}

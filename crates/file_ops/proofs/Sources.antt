@@ -1,5 +1,5 @@
 -- A string from which a token is read stands, and ends below 2^32.
-use Rattle.std.proofs.Common.{◌≡◌, ℕ, ◌+◌, ◌^◌, ◌<◌, Bool, true, false, ◌&&◌, List, Option, Some, None, Result, Ok, refl, subst, arith}
+use Rattle.std.proofs.Common.{◌≡◌, ℕ, ◌+◌, ◌^◌, ◌<◌, Bool, true, false, ◌&&◌, List, Option, Some, None, Ok, refl, subst, arith}
 use Rattle.std.specs.FinMap.{get}
 use Rattle.ps_objects.specs.Operands.{object_at}
 use Rattle.ps_objects.specs.declared.object.Kind.{Kind}

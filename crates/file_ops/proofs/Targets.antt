@@ -1,5 +1,5 @@
 -- The string that is filled is the newest operand, and stands.
-use Rattle.std.proofs.Common.{◌≡◌, ℕ, true, List, Result, Ok, Err, refl, ap, arith}
+use Rattle.std.proofs.Common.{◌≡◌, ℕ, true, List, Result, Ok, Err, ap}
 use Rattle.ps_names.specs.declared.error_name.ErrorName.{ErrorName}
 use Rattle.ps_objects.specs.Operands.{needed, object_at, string_at, file_at, readable_at, writable_at}
 use Rattle.ps_objects.specs.declared.object.Object.{Object}
