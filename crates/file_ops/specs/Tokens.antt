@@ -50,7 +50,7 @@ scan_then (fail e) k = fail e
 scan_then (look l f) k = look l (λ v. scan_then (f v) k)
 scan_then (ask c f) k = ask c (λ s. scan_then (f s) k)
 
--- ends with the changes of what was scanned, some units more, these operands, and at a place of the section's text
+-- ends with the changes of what was scanned, with so many units spent, these operands, and at a place of the section's text
 abbrev pub takes : State → List Change → ℕ → ℕ → List Object → Ask
 takes s ws units place xs = done ws (quiet (record (moved s place xs) { units = units }))
 
