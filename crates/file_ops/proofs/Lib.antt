@@ -1,0 +1,9 @@
+pub mod Rests
+pub mod Bytes
+pub mod Targets
+pub mod Hexadecimal
+pub mod Lines
+pub mod Sources
+pub mod Scanning
+pub mod Ordered
+pub mod Keeping
