@@ -1,7 +1,6 @@
 -- Each operator keeps a state that fits: its tree again, with what fits beside each look and end.
-use Rattle.std.proofs.Common.{◌≡◌, ℕ, Bool, true, false, not, List, [], ◌∷◌, drop, Option, Some, None, Result, Ok, Err, refl, subst}
+use Rattle.std.proofs.Common.{◌≡◌, ℕ, Bool, true, false, not, List, [], ◌∷◌, drop, Option, Some, None, Ok, refl, subst}
 use Rattle.std.specs.Bool.{⊤}
-use Rattle.ps_names.specs.declared.error_name.ErrorName.{ErrorName}
 use Rattle.ps_objects.specs.declared.access.Access.{Access}
 use Rattle.ps_objects.specs.declared.access.Access.TheVariants.{ReadOnly, ExecuteOnly, NoAccess}
 use Rattle.ps_objects.specs.declared.cell.Cell.{Cell}
@@ -12,7 +11,7 @@ use Rattle.ps_objects.specs.Access.{read_right, run_right}
 use Rattle.ps_objects.specs.Object.{cell_named}
 use Rattle.ps_objects.specs.Operands.{needed, object_at}
 use Rattle.ps_kinds.specs.declared.state.State.{State}
-use Rattle.ps_meaning.specs.Fits.{Shapes, FitsCell, FitsObject, takes}
+use Rattle.ps_meaning.specs.Fits.{FitsObject}
 use Rattle.ps_meaning.specs.Ready.{Fits}
 use Rattle.ps_meaning.specs.Sound.{World}
 use Rattle.ps_operator.specs.Budgets.{is_local}
@@ -25,6 +24,7 @@ use Rattle.ps_operator.proofs.Running.{◌▹◌, all_lawful}
 use Rattle.object_ops.specs.Attributes.{type_name, executable_name, attributed, type_, cvlit, cvx, xcheck}
 use Rattle.object_ops.specs.Accesses.{own_access, access_holder, guarded, guards_dict, leaves_guarded, readonly_in, noaccess_in, lets_read, lets_write, tells, tells_access, executeonly, readonly, noaccess, rcheck, wcheck, gcheck}
 use Rattle.object_ops.specs.Operators.{operators, run}
+use Rattle.object_ops.proofs.Bound.{bind_keeps}
 
 -- ---- types and attributes
 
@@ -140,7 +140,7 @@ gcheck_keeps text s W f =
 all_keep : AreLawful operators
 all_keep =
     type_keeps ▹ cvlit_keeps ▹ cvx_keeps ▹ xcheck_keeps ▹ executeonly_keeps ▹ readonly_keeps ▹ noaccess_keeps
-    ▹ rcheck_keeps ▹ wcheck_keeps ▹ gcheck_keeps ▹ tt
+    ▹ rcheck_keeps ▹ wcheck_keeps ▹ gcheck_keeps ▹ bind_keeps ▹ tt
 
 pub run_keeps : (n : ℕ) → IsLawful (run n)
 run_keeps = all_lawful operators all_keep

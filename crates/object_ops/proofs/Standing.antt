@@ -1,5 +1,5 @@
 -- The dictionary in whose cell an operand's access lies stands.
-use Rattle.std.proofs.Common.{◌≡◌, ℕ, true, Option, Some, None, Result, Ok, subst}
+use Rattle.std.proofs.Common.{◌≡◌, ℕ, true, Some, Ok, subst}
 use Rattle.ps_objects.specs.declared.cell.Cell.{Cell}
 use Rattle.ps_objects.specs.declared.object.Kind.{Kind}
 use Rattle.ps_objects.specs.declared.object.Kind.TheVariants as kind

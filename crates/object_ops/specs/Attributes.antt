@@ -1,5 +1,5 @@
 -- Types and attributes of objects (sections 3.3 and 8.2 of the language manual).
-use Rattle.std.specs.Prelude.{ℕ, Bool, true, false, if◌then◌else◌, List, [], ◌∷◌, codes, drop}
+use Rattle.std.specs.Prelude.{ℕ, Bool, true, false, if◌then◌else◌, List, ◌∷◌, codes, drop}
 use Rattle.ps_objects.specs.declared.access.Access.TheVariants.{Unlimited}
 use Rattle.ps_objects.specs.declared.object.Kind.{Kind}
 use Rattle.ps_objects.specs.declared.object.Kind.TheVariants as kind

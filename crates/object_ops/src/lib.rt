@@ -3,6 +3,7 @@
 
 mod accesses;
 mod attributes;
+mod binding;
 mod laws;
 mod running;
 

@@ -6,6 +6,7 @@ ghost use Rattle.object_ops.specs.Operators as spec;
 
 use crate::accesses::{executeonly, gcheck, noaccess, rcheck, readonly, wcheck};
 use crate::attributes::{cvlit, cvx, type_, xcheck};
+use crate::binding::bind;
 use ps_kinds::{Act, NoMemory, Op, Refusal, State};
 use ps_names::places;
 use ps_operator::{Mem, told_done};
@@ -14,7 +15,7 @@ use ps_operator::{Mem, told_done};
 pub fn belongs(op: Op, _state: &State) -> bool
     ensures { result ≡ spec.belongs op }
 {
-    places::TYPE <= op.index() && op.index() <= places::GCHECK
+    places::TYPE <= op.index() && op.index() <= places::BIND
 }
 
 fn run_done<M: Mem>(op: Op, state: &mut State, mem: &mut M) -> Result<(), Refusal>
@@ -33,6 +34,7 @@ fn run_done<M: Mem>(op: Op, state: &mut State, mem: &mut M) -> Result<(), Refusa
         places::RCHECK => rcheck(state, mem),
         places::WCHECK => wcheck(state, mem),
         places::GCHECK => gcheck(state),
+        places::BIND => bind(state, mem),
         _ => unreachable!(),
     }
 }
