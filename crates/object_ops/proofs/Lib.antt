@@ -1,0 +1,4 @@
+pub mod Standing
+pub mod Walking
+pub mod Bound
+pub mod Keeping

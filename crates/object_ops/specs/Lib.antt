@@ -1,0 +1,4 @@
+pub mod Attributes
+pub mod Accesses
+pub mod Binding
+pub mod Operators
