@@ -5,7 +5,6 @@ use Rattle.ps_objects.specs.declared.objects.Interval.{Interval}
 use Rattle.ps_objects.specs.declared.place.Value.TheVariants as value
 use Rattle.ps_kinds.specs.declared.state.State.{State}
 use Rattle.ps_memory.specs.Memory.{Memory, Found, is, shaped, item, held, at, value_found, value_at, shape_at}
-use Rattle.ps_meaning.specs.Answer.{Log}
 use Rattle.ps_meaning.specs.Fits.{Shapes, FitsObject, FitsFound}
 use Rattle.ps_meaning.specs.Ready.{Ready}
 use Rattle.ps_operator.specs.Looks.{item_place}

@@ -1,5 +1,5 @@
 -- Full texts look lawfully, and find what the section may still say.
-use Rattle.std.proofs.Common.{◌≡◌, ℕ, zero, suc, ◌+◌, ◌<◌, ◌≤◌, Bool, true, List, [], ◌∷◌, ◌++◌, codes, length, Some, Result, Ok, Err, refl, ap, ◌∙◌, subst, arith}
+use Rattle.std.proofs.Common.{◌≡◌, ℕ, zero, suc, ◌+◌, ◌<◌, ◌≤◌, Bool, true, List, [], ◌∷◌, ◌++◌, codes, length, Result, Ok, Err, refl, subst, arith}
 use Rattle.ps_names.specs.declared.error_name.ErrorName.{ErrorName}
 use Rattle.ps_objects.specs.Access.{read_right}
 use Rattle.ps_objects.specs.Object.{cell_named}
@@ -20,13 +20,12 @@ use Rattle.ps_operator.specs.Budgets.{message_room}
 use Rattle.ps_operator.specs.Lawful.{HasItems, HasBytes, Looks}
 use Rattle.ps_operator.specs.Looks.{byte_then, object_then, look_byte, look_item}
 use Rattle.ps_operator.specs.Registers.{literal}
-use Rattle.ps_operator.specs.Tree.{read, look_then, found}
 use Rattle.ps_operator.proofs.Fitting.{array_fits, string_kind}
 use Rattle.ps_operator.proofs.Seeking.{Seeks, found_seeks, read_seeks, then_seeks}
 use Rattle.full_texts.specs.Growing.{if_room, allowed, Growth, whole}
 use Rattle.full_texts.specs.Bytes.{escaped, bytes_shown, string_shown}
 use Rattle.full_texts.proofs.Room.{room_kept}
-use Rattle.full_texts.specs.Full.{simple_text, gap, opening, closing, items_shown, array_if, array_shown, kind_shown, object_shown, levels_shown, full_text}
+use Rattle.full_texts.specs.Full.{simple_text, gap, opening, closing, items_shown, array_if, kind_shown, object_shown, levels_shown, full_text}
 
 -- ---- looks
 

@@ -1,11 +1,10 @@
 -- What comes of a text that grows: pieces that are taken or refused, and steps of the loops that show bytes and items.
-use Rattle.std.proofs.Common.{◌≡◌, ℕ, zero, suc, ◌+◌, ◌-◌, ◌<◌, Bool, List, [], ◌∷◌, ◌++◌, codes, Result, Ok, Err, refl, sym, ap, ◌∙◌, arith}
+use Rattle.std.proofs.Common.{◌≡◌, ℕ, zero, suc, ◌+◌, ◌-◌, ◌<◌, Bool, List, ◌++◌, codes, Result, Ok, Err, refl, sym, ap, ◌∙◌, arith}
 use Rattle.ps_names.specs.declared.error_name.ErrorName.{ErrorName}
 use Rattle.ps_objects.specs.Access.{read_right}
 use Rattle.ps_objects.specs.declared.access.Access.{Access}
 use Rattle.ps_objects.specs.declared.object.Object.{Object}
 use Rattle.ps_objects.specs.declared.objects.Interval.{Interval}
-use Rattle.ps_objects.specs.declared.place.Loc.TheVariants as loc
 use Rattle.ps_objects.specs.declared.place.Value.TheVariants as value
 use Rattle.ps_objects.specs.declared.refusal.Refusal.{Refusal}
 use Rattle.ps_objects.specs.declared.refusal.Refusal.TheVariants as refusal
@@ -18,7 +17,7 @@ use Rattle.ps_operator.specs.Tree.{read, reads, look_then, found, went_on}
 use Rattle.ps_operator.proofs.Then.{reads_then}
 use Rattle.full_texts.specs.Growing.{allowed, Growth, whole, Makes, Grows}
 use Rattle.full_texts.specs.Bytes.{escaped, bytes_shown, string_shown}
-use Rattle.full_texts.specs.Full.{gap, opening, closing, items_shown, array_if, array_shown, object_shown, levels_shown, shown_within, items_within}
+use Rattle.full_texts.specs.Full.{gap, opening, closing, items_shown, array_if, levels_shown, shown_within, items_within}
 
 -- ---- pieces
 
