@@ -1,5 +1,5 @@
 -- Each operator keeps a state that fits: its tree again, with what fits beside each look and end.
-use Rattle.std.proofs.Common.{◌≡◌, ℕ, zero, suc, ℤ, ◌+◌, ◌-◌, ◌<◌, ◌≤◌, Bool, true, false, cond, ◌&&◌, nat_lt, nat_eq, List, [], ◌∷◌, ◌++◌, drop, take, length, Option, Some, None, Result, Ok, Err, refl, sym, ap, ◌∙◌, subst, arith}
+use Rattle.std.proofs.Common.{◌≡◌, ℕ, zero, suc, ◌+◌, ◌-◌, ◌<◌, ◌≤◌, Bool, true, false, cond, ◌&&◌, nat_lt, nat_eq, List, [], ◌∷◌, ◌++◌, drop, take, length, Option, Some, None, Result, Ok, Err, refl, ap, arith}
 use Rattle.std.specs.List.{AllByRecursion, starts_with}
 use Rattle.std.specs.Cmp.Lexicographic.{pointwise}
 use Rattle.ps_names.specs.declared.error_name.ErrorName.{ErrorName}
@@ -10,7 +10,6 @@ use Rattle.ps_objects.specs.declared.object.Kind.{Kind}
 use Rattle.ps_objects.specs.declared.object.Kind.TheVariants as kind
 use Rattle.ps_objects.specs.declared.object.Object.{Object}
 use Rattle.ps_objects.specs.declared.objects.Interval.{Interval}
-use Rattle.ps_objects.specs.declared.objects.Number.{Number}
 use Rattle.ps_objects.specs.declared.objects.Number.TheVariants as number
 use Rattle.ps_objects.specs.declared.place.Shape.TheVariants as shape
 use Rattle.ps_objects.specs.Access.{read_right}
@@ -32,7 +31,6 @@ use Rattle.ps_operator.specs.Numbers.{natural_of, length_of}
 use Rattle.ps_operator.specs.Operators.{AreLawful}
 use Rattle.ps_operator.specs.Registers.{ops, literal, with_ops, quiet}
 use Rattle.ps_operator.specs.Storing.{byte_stores}
-use Rattle.ps_operator.specs.Tree.{read, look_then, found}
 use Rattle.ps_operator.proofs.Fitting.{Fit, drop_fits, object_fits, string_fits, string_kind}
 use Rattle.ps_operator.proofs.Growing.{room_kept, made_keeps, new_fits}
 use Rattle.ps_operator.proofs.Lawful.{AreBytes, read_keeps, bytes_keeps, leaves_kept, leaves_keeps}

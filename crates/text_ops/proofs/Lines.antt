@@ -1,11 +1,10 @@
 -- Steps of the loops that show operands.
-use Rattle.std.proofs.Common.{◌≡◌, ℕ, zero, suc, ◌+◌, ◌-◌, ◌<◌, ◌≤◌, ◌^◌, Bool, true, false, cond, nat_lt, List, [], ◌∷◌, ◌++◌, drop, length, slice_get, Option, Some, None, Result, Ok, Err, refl, sym, ap, ◌∙◌, subst, add-one, arith}
+use Rattle.std.proofs.Common.{◌≡◌, ℕ, zero, suc, ◌+◌, ◌<◌, ◌≤◌, Bool, true, false, cond, nat_lt, List, [], ◌∷◌, ◌++◌, drop, length, slice_get, Some, Result, Ok, Err, refl, sym, ap, ◌∙◌, subst, add-one, arith}
 use Rattle.ps_names.specs.declared.error_name.ErrorName.{ErrorName}
-use Rattle.ps_names.specs.declared.error_name.ErrorName.TheVariants.{LimitCheck, StackUnderflow}
+use Rattle.ps_names.specs.declared.error_name.ErrorName.TheVariants.{LimitCheck}
 use Rattle.ps_objects.specs.Operands.{object_at}
 use Rattle.ps_objects.specs.declared.object.Object.{Object}
 use Rattle.ps_objects.specs.declared.refusal.Refusal.{Refusal}
-use Rattle.ps_objects.specs.declared.refusal.Refusal.TheVariants as refusal
 use Rattle.ps_kinds.specs.declared.state.State.{State}
 use Rattle.ps_memory.specs.Memory.{Memory}
 use Rattle.ps_memory.specs.Tree.{Application}
@@ -13,9 +12,9 @@ use Rattle.ps_meaning.specs.Answer.{Log}
 use Rattle.ps_meaning.specs.Budgets.{message_budget}
 use Rattle.ps_meaning.specs.Ready.{Ready}
 use Rattle.ps_operator.specs.Budgets.{message_room}
-use Rattle.ps_operator.specs.Keys.{key_right_of, key_right_at}
+use Rattle.ps_operator.specs.Keys.{key_right_at}
 use Rattle.ps_operator.specs.Standing.{is_named}
-use Rattle.ps_operator.specs.Tree.{read, reads, look_then, found, went_on}
+use Rattle.ps_operator.specs.Tree.{reads, look_then, went_on}
 use Rattle.ps_operator.proofs.LookSteps.{drop_at_get}
 use Rattle.ps_operator.proofs.Standing.{object_stands}
 use Rattle.ps_operator.proofs.Then.{reads_then}
