@@ -1,5 +1,5 @@
 -- A list of bytes, index by index, is one of bytes.
-use Rattle.std.proofs.Common.{◌≡◌, ℕ, zero, suc, ◌<◌, true, ◌&&◌, nat_lt, List, [], ◌∷◌, slice_index, refl, ap, ◌∙◌, arith}
+use Rattle.std.proofs.Common.{◌≡◌, ℕ, suc, ◌<◌, true, ◌&&◌, nat_lt, List, [], ◌∷◌, slice_index, refl, ap, ◌∙◌, arith}
 use Rattle.text_ops.specs.Parts.{are_bytes}
 
 pub by_index : (bs : List ℕ) → ((i : ℕ) → slice_index bs i < 256) → are_bytes bs ≡ true

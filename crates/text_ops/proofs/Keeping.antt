@@ -1,5 +1,5 @@
 -- Each operator keeps a state that fits: its tree again, with what fits beside each look and end.
-use Rattle.std.proofs.Common.{◌≡◌, ℕ, zero, suc, ℤ, ◌+◌, ◌-◌, ◌<◌, ◌≤◌, Bool, true, false, cond, ◌&&◌, nat_lt, nat_eq, List, [], ◌∷◌, ◌++◌, drop, take, length, Option, Some, None, Result, Ok, Err, refl, sym, ap, ◌∙◌, subst, arith}
+use Rattle.std.proofs.Common.{◌≡◌, ℕ, zero, suc, ◌+◌, ◌-◌, ◌<◌, ◌≤◌, Bool, true, false, cond, ◌&&◌, nat_lt, nat_eq, List, [], ◌∷◌, ◌++◌, drop, take, length, Option, Some, None, Result, Ok, Err, refl, ap, arith}
 use Rattle.std.specs.List.{AllByRecursion, starts_with}
 use Rattle.std.specs.Cmp.Lexicographic.{pointwise}
 use Rattle.ps_names.specs.declared.error_name.ErrorName.{ErrorName}
@@ -10,7 +10,6 @@ use Rattle.ps_objects.specs.declared.object.Kind.{Kind}
 use Rattle.ps_objects.specs.declared.object.Kind.TheVariants as kind
 use Rattle.ps_objects.specs.declared.object.Object.{Object}
 use Rattle.ps_objects.specs.declared.objects.Interval.{Interval}
-use Rattle.ps_objects.specs.declared.objects.Number.{Number}
 use Rattle.ps_objects.specs.declared.objects.Number.TheVariants as number
 use Rattle.ps_objects.specs.declared.place.Shape.TheVariants as shape
 use Rattle.ps_objects.specs.Access.{read_right}
@@ -32,7 +31,6 @@ use Rattle.ps_operator.specs.Numbers.{natural_of, length_of}
 use Rattle.ps_operator.specs.Operators.{AreLawful}
 use Rattle.ps_operator.specs.Registers.{ops, literal, with_ops, quiet}
 use Rattle.ps_operator.specs.Storing.{byte_stores}
-use Rattle.ps_operator.specs.Tree.{read, look_then, found}
 use Rattle.ps_operator.proofs.Fitting.{Fit, drop_fits, object_fits, string_fits, string_kind}
 use Rattle.ps_operator.proofs.Growing.{room_kept, made_keeps, new_fits}
 use Rattle.ps_operator.proofs.Lawful.{AreBytes, read_keeps, bytes_keeps, leaves_kept, leaves_keeps}
@@ -46,11 +44,15 @@ use Rattle.text_ops.specs.declared.plain.Plain.{Plain}
 use Rattle.text_ops.specs.declared.plain.Plain.TheVariants as plain
 use Rattle.text_ops.specs.Plain.{plain_form, plain_length, plain_told}
 use Rattle.text_ops.specs.Strings.{string_units, string, first_place, search_ends, search, anchorsearch_ends, anchorsearch}
+use Rattle.full_texts.specs.Full.{full_text}
+use Rattle.full_texts.proofs.Seeking.{MaySay, whole_seeks, full_text_seeks}
 use Rattle.text_ops.specs.Messages.{says, print, equals_sign}
+use Rattle.text_ops.specs.Listing.{full_line, full_lines, two_equals_signs, pstack, all_readable, lines_room, plain_lines, stack}
 use Rattle.text_ops.specs.Numbers.{number_in, integer_from, real_from, base_of, number_text}
 use Rattle.text_ops.specs.Conversions.{cvs, cvrs, name_room, cvn, number_told, cvi, cvr}
 use Rattle.text_ops.specs.Operators.{operators, run}
 use Rattle.text_ops.proofs.Places.{first_within}
+use Rattle.text_ops.proofs.Lines.{lines_allowed}
 
 -- ---- parts of strings
 
@@ -209,6 +211,46 @@ equals_sign_keeps text s W f =
     seeking_keeps (FitsPlain W (plain_form x.kind)) (plain_told (plain_form x.kind)) (plain_seeks W x.kind (object_fits W.shapes (ops s) 0 x o p)) (λ bs _.
     says_keeps f (drop 1 (ops s)) (plain_length (plain_form x.kind) + 1) (bs ++ 10 ∷ []) (drop_fits W.shapes 1 (ops s) o) (said_kept s (plain_length (plain_form x.kind) + 1) m))))))
 
+-- ---- messages that show operands
+
+full_line_seeks : (s : State) (W : World) (x : Object) (text : List ℕ) → FitsObject W.shapes x → Seeks W (MaySay s) (full_line s x text)
+full_line_seeks s W x text h = then_seeks (MaySay s) (full_text s x text) (full_text_seeks s W x text h) (λ t _. whole_seeks s W (t ++ 10 ∷ []))
+
+full_lines_seek : (s : State) (W : World) (xs : List Object) (text : List ℕ) → Fit W.shapes xs → MaySay s text → Seeks W (MaySay s) (full_lines s xs text)
+full_lines_seek s W [] text h m = found_seeks (MaySay s) text m
+full_lines_seek s W (x ∷ xs) text h m = then_seeks (MaySay s) (full_line s x text) (full_line_seeks s W x text h.0) (λ t q. full_lines_seek s W xs t h.1 q)
+
+two_equals_signs_keeps : IsLawful two_equals_signs
+two_equals_signs_keeps text s W f =
+    let o : Fit W.shapes (ops s) = f.state.registers.operands in
+    read_keeps (needed 1 (ops s)) (λ _ _.
+    read_keeps (object_at 0 (ops s)) (λ x p.
+    seeking_keeps (MaySay s) (full_line s x []) (full_line_seeks s W x [] (object_fits W.shapes (ops s) 0 x o p)) (λ bs m.
+    says_keeps f (drop 1 (ops s)) (length bs) bs (drop_fits W.shapes 1 (ops s) o) m.within)))
+
+nothing_more : (said budget : ℕ) → said ≤ budget → said + 0 ≤ budget
+nothing_more said budget l = omega (arith, l)
+
+pstack_keeps : IsLawful pstack
+pstack_keeps text s W f =
+    let o : Fit W.shapes (ops s) = f.state.registers.operands in
+    seeking_keeps (MaySay s) (full_lines s (ops s) [])
+    (full_lines_seek s W (ops s) [] o (record { within = nothing_more s.said (message_budget s.kind) f.state.budget.said })) (λ bs m.
+    says_keeps f (ops s) (length bs) bs o m.within)
+
+plain_lines_seek : (W : World) (xs : List Object) (text : List ℕ) → Fit W.shapes xs → Seeks W Any (plain_lines xs text)
+plain_lines_seek W [] text h = found_seeks Any text tt
+plain_lines_seek W (x ∷ xs) text h =
+    then_seeks (FitsPlain W (plain_form x.kind)) (plain_told (plain_form x.kind)) (plain_seeks W x.kind h.0) (λ t _. plain_lines_seek W xs (text ++ t ++ 10 ∷ []) h.1)
+
+stack_keeps : IsLawful stack
+stack_keeps text s W f =
+    let o : Fit W.shapes (ops s) = f.state.registers.operands in
+    read_keeps (all_readable (ops s)) (λ _ _.
+    read_keeps (lines_room s (ops s)) (λ n m.
+    seeking_keeps Any (plain_lines (ops s) []) (plain_lines_seek W (ops s) [] o) (λ bs _.
+    says_keeps f (ops s) n bs o (said_kept s n (lines_allowed s (ops s) n m)))))
+
 -- ---- conversions
 
 fits_by : (len n : ℕ) (t : Bool) → nat_lt len n ≡ t → cond {A = Result (Unit {0}) ErrorName} t (Err RangeCheck) (Ok tt) ≡ Ok tt → n ≤ len
@@ -330,7 +372,7 @@ cvr_keeps text s W f =
 all_keep : AreLawful operators
 all_keep =
     string_keeps ▹ search_keeps ▹ anchorsearch_keeps ▹ cvs_keeps ▹ cvrs_keeps ▹ cvn_keeps ▹ cvi_keeps ▹ cvr_keeps
-    ▹ print_keeps ▹ equals_sign_keeps ▹ tt
+    ▹ print_keeps ▹ equals_sign_keeps ▹ two_equals_signs_keeps ▹ stack_keeps ▹ pstack_keeps ▹ tt
 
 pub run_keeps : (n : ℕ) → IsLawful (run n)
 run_keeps = all_lawful operators all_keep

@@ -2,4 +2,5 @@ pub mod Places
 pub mod Ends
 pub mod Bases
 pub mod Bytes
+pub mod Lines
 pub mod Keeping

@@ -1,5 +1,5 @@
 -- Conversions of texts, numbers and names (section 8.2 of the language manual).
-use Rattle.std.specs.Prelude.{ℕ, nat_lt, if◌then◌else◌, List, [], ◌∷◌, drop, length, Result, Ok, Err}
+use Rattle.std.specs.Prelude.{ℕ, nat_lt, if◌then◌else◌, ◌∷◌, drop, length, Result, Ok, Err}
 use Rattle.ps_names.specs.declared.error_name.ErrorName.{ErrorName}
 use Rattle.ps_names.specs.declared.error_name.ErrorName.TheVariants.{LimitCheck, TypeCheck}
 use Rattle.ps_names.specs.declared.op.TheConstants.{NAME_LIMIT}

@@ -8,13 +8,15 @@ use Rattle.ps_operator.specs.Operators.{Operators, run_in}
 use Rattle.text_ops.specs.Strings.{string, search, anchorsearch}
 use Rattle.text_ops.specs.Conversions.{cvs, cvrs, cvn, cvi, cvr}
 use Rattle.text_ops.specs.Messages.{print, equals_sign}
+use Rattle.text_ops.specs.Listing.{two_equals_signs, stack, pstack}
 
 -- all of them
 abbrev pub operators : Operators
 operators =
     (at.STRING, string) ∷ (at.SEARCH, search) ∷ (at.ANCHORSEARCH, anchorsearch) ∷ (at.CVS, cvs)
     ∷ (at.CVRS, cvrs) ∷ (at.CVN, cvn) ∷ (at.CVI, cvi) ∷ (at.CVR, cvr) ∷ (at.PRINT, print)
-    ∷ (at.EQUALS_SIGN, equals_sign) ∷ []
+    ∷ (at.EQUALS_SIGN, equals_sign) ∷ (at.TWO_EQUALS_SIGNS, two_equals_signs)
+    ∷ (at.STACK, stack) ∷ (at.PSTACK, pstack) ∷ []
 
 -- those that leave no message
 abbrev pub is_silent : ℕ → Bool
@@ -22,11 +24,11 @@ is_silent n = nat_le at.STRING n && nat_le n at.CVR
 
 -- those that leave one
 abbrev pub is_loud : ℕ → Bool
-is_loud n = nat_le at.PRINT n && nat_le n at.EQUALS_SIGN
+is_loud n = nat_le at.PRINT n && nat_le n at.PSTACK
 
 -- they stand together in the list of operators
 abbrev pub belongs : ℕ → Bool
-belongs n = nat_le at.STRING n && nat_le n at.EQUALS_SIGN
+belongs n = nat_le at.STRING n && nat_le n at.PSTACK
 
 -- what the operator at a place does
 abbrev pub run : ℕ → State → Ask

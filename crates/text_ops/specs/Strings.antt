@@ -1,5 +1,5 @@
 -- New strings, and searches in strings (section 8.2 of the language manual).
-use Rattle.std.specs.Prelude.{ℕ, zero, suc, ◌+◌, ◌/◌, Bool, true, false, cond, nat_eq, if◌then◌else◌, List, [], ◌∷◌, length, drop, Option, Some, None}
+use Rattle.std.specs.Prelude.{ℕ, zero, suc, ◌+◌, ◌/◌, Bool, true, false, nat_eq, if◌then◌else◌, List, [], ◌∷◌, length, drop, Option, Some, None}
 use Rattle.std.specs.List.{starts_with}
 use Rattle.memchr.specs.Find.{occurs_at}
 use Rattle.ps_objects.specs.Object.{whole_of}

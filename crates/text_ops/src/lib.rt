@@ -3,6 +3,7 @@
 
 mod conversions;
 mod laws;
+mod listing;
 mod messages;
 mod numbers;
 mod parts;

@@ -5,6 +5,7 @@ ghost use Rattle.ps_operator.specs.Owes.{Acts, Does, Runs};
 ghost use Rattle.text_ops.specs.Operators as spec;
 
 use crate::conversions::{cvi, cvn, cvr, cvrs, cvs};
+use crate::listing::{pstack, stack, two_equals_signs};
 use crate::messages::{equals_sign, print};
 use crate::strings::{anchorsearch, search, string};
 use ps_kinds::{Act, NoMemory, Op, Refusal, State};
@@ -15,7 +16,7 @@ use ps_operator::{Mem, told, told_done};
 pub fn belongs(op: Op, _state: &State) -> bool
     ensures { result ≡ spec.belongs op }
 {
-    places::STRING <= op.index() && op.index() <= places::EQUALS_SIGN
+    places::STRING <= op.index() && op.index() <= places::PSTACK
 }
 
 /// The operators that leave no message.
@@ -46,6 +47,9 @@ fn run_said<M: Mem>(op: Op, state: &mut State, mem: &mut M) -> Result<Act, Refus
     match op.index() {
         places::PRINT => print(state, mem),
         places::EQUALS_SIGN => equals_sign(state, mem),
+        places::TWO_EQUALS_SIGNS => two_equals_signs(state, mem),
+        places::STACK => stack(state, mem),
+        places::PSTACK => pstack(state, mem),
         _ => unreachable!(),
     }
 }

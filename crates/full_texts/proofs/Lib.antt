@@ -1,0 +1,4 @@
+pub mod Room
+pub mod Steps
+pub mod Named
+pub mod Seeking

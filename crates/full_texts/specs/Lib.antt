@@ -1,0 +1,3 @@
+pub mod Growing
+pub mod Bytes
+pub mod Full
