@@ -52,9 +52,10 @@ pub struct Ran {
 }
 
 /// The state before a section's first byte.
-fn fresh_state(alloc: Global, input: SectionInput<'_>, regs: Regs) -> State
+fn fresh_state(alloc: Global, input: &SectionInput<'_>, regs: Regs) -> State
     ensures { result ≡
-        spec.fresh_state input.settings.now input.moment input.number input.kind regs }
+        spec.fresh_state input.now.settings.now input.now.moment input.now.number input.now.kind
+        regs }
 {
     State {
         regs,
@@ -80,18 +81,18 @@ fn fresh_state(alloc: Global, input: SectionInput<'_>, regs: Regs) -> State
 /// `OutFault` only where the outlet's count of faults has risen. After a refusal the memory may only be dropped.
 pub fn run_section<M: Mem, O: Outlet, T: Operators<M>>(
     alloc: Global,
-    input: SectionInput<'_>,
+    input: &SectionInput<'_>,
     regs: Regs,
     mem: &mut M,
     out: &mut O,
 ) -> Result<Ran, RunRefusal>
-    requires positive { 1 ≤ input.number }
-    requires may_run { MayRun input.number regs (M.log mem.old).view }
+    requires positive { 1 ≤ input.now.number }
+    requires may_run { MayRun input.now.number regs (M.log mem.old).view }
     ensures counted { O.faults out.old ≤ O.faults out.new }
     ensures failed { IsFault result → HasRisen (O.faults out.old) (O.faults out.new) }
-    ensures runs { IfOk result (λ ran. RanTo O.since (section_by T.table input regs)
+    ensures runs { IfOk result (λ ran. RanTo O.since (section_by T.table input.now regs)
         (M.log mem.old) ran (M.log mem.new) out.new out.old) }
-    ensures cut { OnErr result (Wrote O.cut out.new out.old (section_by T.table input regs)
+    ensures cut { OnErr result (Wrote O.cut out.new out.old (section_by T.table input.now regs)
         (M.log mem.old).view) }
 {
     let mut state = fresh_state(alloc, input, regs);

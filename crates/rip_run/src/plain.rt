@@ -90,7 +90,7 @@ fn run_all<O: Outlet, T: Operators<Cells>>(
         moment,
         text: job,
     };
-    let done = run_sections::<Cells, O, T>(alloc, input, sections, regs, &mut mem, out)?;
+    let done = run_sections::<Cells, O, T>(alloc, &input, sections, regs, &mut mem, out)?;
     say_done(alloc, done.shown, out)?;
     Ok(status_of(done.end))
 }

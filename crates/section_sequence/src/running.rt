@@ -36,19 +36,19 @@ pub struct Finished {
 /// Runs a section, unless the job has ended before it.
 fn go_on<M: Base, O: Outlet, T: Operators<M>>(
     alloc: Global,
-    job: JobInput<'_>,
+    job: &JobInput<'_>,
     section: &Section,
     ran: Ran,
     mem: &mut M,
     out: &mut O,
 ) -> Result<Ran, RunRefusal>
-    requires within { section.now.from + section.now.len ≤ length job.text.now }
+    requires within { section.now.from + section.now.len ≤ length job.now.text.now }
     requires positive { 1 ≤ section.now.number }
     requires may_run { MayRun section.now.number ran.regs (M.log mem.old).view }
     ensures counted { O.faults out.old ≤ O.faults out.new }
     ensures failed { IsFault result → HasRisen (O.faults out.old) (O.faults out.new) }
     ensures runs { (e : End) → ran.end ≡ end_in e → GoesOn O.since O.cut
-        (one_more (job_by T.table job) section.now ran.regs (M.log mem.old).view e)
+        (one_more (job_by T.table job.now) section.now ran.regs (M.log mem.old).view e)
         result (M.log mem.new).view out.new out.old }
 {
     if ran.end != SectionEnd::Through {
@@ -61,27 +61,27 @@ fn go_on<M: Base, O: Outlet, T: Operators<M>>(
         kind: section.kind,
         text: section.text(job.text),
     };
-    run_section::<M, O, T>(alloc, input, ran.regs, mem, out)
+    run_section::<M, O, T>(alloc, &input, ran.regs, mem, out)
 }
 
 /// Runs sections of a job in sequence, from these registers and on this memory.
 pub fn run_sections<M: Base, O: Outlet, T: Operators<M>>(
     alloc: Global,
-    job: JobInput<'_>,
+    job: &JobInput<'_>,
     sections: &[Section],
     regs: Regs,
     mem: &mut M,
     out: &mut O,
 ) -> Result<Finished, RunRefusal>
-    requires within { StandsWithin job.text.now sections.now }
+    requires within { StandsWithin job.now.text.now sections.now }
     requires may_run { MayRunAll sections.now regs (M.log mem.old).view }
     ensures counted { O.faults out.old ≤ O.faults out.new }
     ensures failed { IsFault result → HasRisen (O.faults out.old) (O.faults out.new) }
     ensures runs { IfOk result (λ done. Finishes O.since
-        (sections_by T.table job sections.now regs (M.log mem.old).view)
+        (sections_by T.table job.now sections.now regs (M.log mem.old).view)
         done (M.log mem.new).view out.new out.old) }
     ensures cut { OnErr result (CutOff O.cut
-        (sections_by T.table job sections.now regs (M.log mem.old).view)
+        (sections_by T.table job.now sections.now regs (M.log mem.old).view)
         out.new out.old) }
 {
     let mut counter = PageCounter::new(out);

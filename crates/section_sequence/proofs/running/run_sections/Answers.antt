@@ -13,7 +13,7 @@ other = record { number = 0; kind = Prolog; from = 0; len = 0 }
 
 pub loop-section-init : goal.loop-section-init
 loop-section-init g c =
-    let J = job_of g.T.Operators.table c.args.job.settings.now c.args.job.moment c.args.job.text.now in
+    let J = job_of g.T.Operators.table c.args.job.now.settings.now c.args.job.now.moment c.args.job.now.text.now in
     let e : c.new-counter.result.out.now ≡ c.args.out.now = λ i. (c.new-counter.ensures.out i).now in
     record {
       counted = subst (λ o. g.O.Outlet.faults c.args.out.now ≤ g.O.Outlet.faults o) (sym e) (le_refl _);
@@ -23,11 +23,11 @@ loop-section-init g c =
 
 pub go_on-requires-clause-may_run : goal.go_on-requires-clause-may_run
 go_on-requires-clause-may_run g c =
-    let J = job_of g.T.Operators.table c.args.job.settings.now c.args.job.moment c.args.job.text.now in
+    let J = job_of g.T.Operators.table c.args.job.now.settings.now c.args.job.now.moment c.args.job.now.text.now in
     let M = (g.M.Mem.log c.args.mem.now).view in
     let xs = c.args.sections.now in
     let k = c.loop-section.section-index in
-    let whole = sections_from g.T.Operators.table c.args.job.settings.now c.args.job.moment c.args.job.text.now xs c.args.regs M in
+    let whole = sections_from g.T.Operators.table c.args.job.now.settings.now c.args.job.now.moment c.args.job.now.text.now xs c.args.regs M in
     let N = (g.M.Mem.log c.loop-section.mem).view in
     let x = slice_index_or xs k other in
     let s = subst (λ l. Stands g.O.Outlet.since J whole l c.loop-section.ran N c.loop-section.counter c.args.out.now) (drop_more xs k other c.loop-section-test.true) c.loop-section.invariant.stands in
@@ -35,11 +35,11 @@ go_on-requires-clause-may_run g c =
 
 pub returns-in_err-ran-clause-cut : goal.returns-in_err-ran-clause-cut
 returns-in_err-ran-clause-cut g c =
-    let J = job_of g.T.Operators.table c.args.job.settings.now c.args.job.moment c.args.job.text.now in
+    let J = job_of g.T.Operators.table c.args.job.now.settings.now c.args.job.now.moment c.args.job.now.text.now in
     let M = (g.M.Mem.log c.args.mem.now).view in
     let xs = c.args.sections.now in
     let k = c.loop-section.section-index in
-    let whole = sections_from g.T.Operators.table c.args.job.settings.now c.args.job.moment c.args.job.text.now xs c.args.regs M in
+    let whole = sections_from g.T.Operators.table c.args.job.now.settings.now c.args.job.now.moment c.args.job.now.text.now xs c.args.regs M in
     let N = (g.M.Mem.log c.loop-section.mem).view in
     let x = slice_index_or xs k other in
     let s = subst (λ l. Stands g.O.Outlet.since J whole l c.loop-section.ran N c.loop-section.counter c.args.out.now) (drop_more xs k other c.loop-section-test.true) c.loop-section.invariant.stands in
@@ -50,11 +50,11 @@ returns-in_err-ran-clause-cut g c =
 
 pub loop-section-preserved : goal.loop-section-preserved
 loop-section-preserved g c =
-    let J = job_of g.T.Operators.table c.args.job.settings.now c.args.job.moment c.args.job.text.now in
+    let J = job_of g.T.Operators.table c.args.job.now.settings.now c.args.job.now.moment c.args.job.now.text.now in
     let M = (g.M.Mem.log c.args.mem.now).view in
     let xs = c.args.sections.now in
     let k = c.loop-section.section-index in
-    let whole = sections_from g.T.Operators.table c.args.job.settings.now c.args.job.moment c.args.job.text.now xs c.args.regs M in
+    let whole = sections_from g.T.Operators.table c.args.job.now.settings.now c.args.job.now.moment c.args.job.now.text.now xs c.args.regs M in
     let N = (g.M.Mem.log c.loop-section.mem).view in
     let x = slice_index_or xs k other in
     let s = subst (λ l. Stands g.O.Outlet.since J whole l c.loop-section.ran N c.loop-section.counter c.args.out.now) (drop_more xs k other c.loop-section-test.true) c.loop-section.invariant.stands in
