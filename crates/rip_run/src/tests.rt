@@ -106,6 +106,25 @@ fn answers_jobs(rt: HostRuntime) -> Result<(), NoMemory> {
             "met\n3\n",
             None,
         ),
+        ("[1 (a\\)) {add /b}] ==", "[1 (a\\)) {add /b}]\n", None),
+        (
+            "1 [2 3] stack pstack",
+            "--nostringval--\n1\n[2 3]\n1\n",
+            None,
+        ),
+        (
+            "/f {1 2 add} bind def f = /f load ==",
+            "3\n{1 2 --add--}\n",
+            None,
+        ),
+        (
+            "/a [1 2 3] def save a 0 9 put restore a 0 get =",
+            "1\n",
+            None,
+        ),
+        ("(12 34) token pop exch = =", "34\n12\n", None),
+        ("currentfile 5 string readline\nabc\npop =", "abc\n", None),
+        ("[1 2] readonly 0 3 put", "", Some(("invalidaccess", "put"))),
         (
             "%!PS-Adobe-3.0\n/x 1 def\n%%Page: 1 1\n/x x 1 add def\n%%Page: 2 2\nx =\n%%Trailer\n(end) print",
             "2\nend\n",
