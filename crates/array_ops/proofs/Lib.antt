@@ -1,0 +1,6 @@
+pub mod Standing
+pub mod Moving
+pub mod Copying
+pub mod Gathering
+pub mod Fitting
+pub mod Keeping

@@ -1,0 +1,169 @@
+//! Single items and bytes, and how many there are (section 8.2 of the language manual).
+#![tactic(auto, using(ps_operator::proofs::Then::answer_then))]
+
+ghost use Rattle.std.specs.Prelude.{◌≡◌, ◌<◌, ◌≤◌, length, true, IfOk, OnOk};
+ghost use Rattle.ps_meaning.specs.Ready.{Ready};
+ghost use Rattle.ps_objects.specs.Operands.{typed};
+ghost use Rattle.ps_operator.specs.Owes.{Does, DoesAlone, Finds};
+ghost use Rattle.ps_operator.specs.Registers.{ops};
+ghost use Rattle.ps_operator.specs.Standing.{is_array, is_string};
+ghost use Rattle.array_ops.specs.Parts.{interval_of, is_part};
+ghost use Rattle.array_ops.specs.Members as spec;
+
+use crate::parts::{Part, interval_of, part_at};
+use ps_kinds::{ErrorName, Interval, Kind, NoMemory, Object, Objects, Operands, Refusal, State};
+use ps_operator::{
+    Mem, literal, look_byte, look_item, place_in, push_result, storable, store_byte, store_item,
+};
+
+fn size_of(kind: &Kind) -> Result<usize, ErrorName>
+    ensures { result ≡ spec.size_of kind.now }
+{
+    match kind {
+        Kind::Array { interval, .. } => Ok(interval.len as usize),
+        Kind::Str(interval) => Ok(interval.len as usize),
+        Kind::Name(name) => Ok(name.as_slice().len()),
+        _ => Err(ErrorName::TypeCheck),
+    }
+}
+
+/// How many items, or bytes of a string or of a name, an operand has: typecheck.
+fn size_at(operands: &Objects, depth: usize) -> Result<usize, ErrorName>
+    ensures { result ≡ typed spec.size_of depth operands.now }
+{
+    size_of(&operands.object(depth)?.kind)
+}
+
+fn size_right(object: &Object) -> Result<(), ErrorName>
+    ensures { result ≡ spec.size_right object.now.access object.now.kind }
+{
+    match object.kind {
+        Kind::Array { .. } => object.access.readable(),
+        Kind::Str(_) => object.access.readable(),
+        _ => Ok(()),
+    }
+}
+
+/// Whether an array or a string may be read, so that its length is told: invalidaccess.
+fn size_right_at(operands: &Objects, depth: usize) -> Result<(), ErrorName>
+    ensures { result ≡ spec.size_right_at depth operands.now }
+{
+    size_right(operands.object(depth)?)
+}
+
+/// A number that is told: limitcheck.
+fn number_told(n: usize) -> Result<i32, ErrorName>
+    ensures { result ≡ spec.number_told n }
+{
+    if n > 2_147_483_647 {
+        Err(ErrorName::LimitCheck)
+    } else {
+        Ok(n as i32)
+    }
+}
+
+/// What `length` does of an array, a string or a name.
+pub(crate) fn size(state: &mut State) -> Result<(), Refusal>
+    ensures { DoesAlone spec.size state.old result state.new }
+{
+    let operands = &mut state.regs.operands;
+    operands.need(1)?;
+    let size = size_at(operands, 0)?;
+    size_right_at(operands, 0)?;
+    let told = number_told(size)?;
+    push_result(operands, 1, Kind::Integer(told))?;
+    Ok(())
+}
+
+/// A look at an item, or at a byte, which is told as an integer.
+fn look_member<M: Mem>(mem: &mut M, part: Part, at: u32) -> Result<Object, NoMemory>
+    requires part { is_part (M.log mem.old).view part ≡ true }
+    requires at { at < (interval_of part).len }
+    ensures { IfOk result (λ x. Finds (spec.member part at) (M.log mem.old) x (M.log mem.new)) }
+{
+    match part {
+        Part::Items(array) => look_item(mem, array, at),
+        Part::Bytes(string) => {
+            let byte = look_byte(mem, string, at)?;
+            Ok(literal(Kind::Integer(byte as i32)))
+        }
+    }
+}
+
+#[tactic(auto, using(ps_operator::proofs::Then::answer_then, ps_operator::proofs::Fitting::place_below, crate::proofs::Standing::part_stands))]
+pub(crate) fn get<M: Mem>(state: &mut State, mem: &mut M) -> Result<(), Refusal>
+    requires { Ready state.old (M.log mem.old).view }
+    ensures { Does spec.get state.old (M.log mem.old) result state.new (M.log mem.new) }
+{
+    let operands = &mut state.regs.operands;
+    operands.need(2)?;
+    let i = operands.integer(0)?;
+    let part = part_at(operands, 1)?;
+    operands.readable(1)?;
+    let at = place_in(interval_of(part).len, i)?;
+    let member = look_member(mem, part, at)?;
+    operands.shrink(2);
+    operands.push(member)?;
+    Ok(())
+}
+
+/// A number that is a byte: rangecheck.
+fn byte_of(n: i32) -> Result<u8, ErrorName>
+    ensures { result ≡ spec.byte_of n }
+{
+    if n >= 0 && n < 256 {
+        Ok(n as u8)
+    } else {
+        Err(ErrorName::RangeCheck)
+    }
+}
+
+/// Puts the newest operand at a place of an array.
+#[tactic(auto, using(ps_operator::proofs::Fitting::place_below))]
+fn put_item<M: Mem>(state: &mut State, mem: &mut M, i: i32, array: Interval) -> Result<(), Refusal>
+    requires array { is_array (M.log mem.old).view array ≡ true }
+    requires there { 3 ≤ length (ops state.old) }
+    ensures { Does (λ s. spec.item_put s i array) state.old (M.log mem.old)
+        result state.new (M.log mem.new) }
+{
+    let operands = &mut state.regs.operands;
+    let object = operands.object(0)?;
+    operands.writable(2)?;
+    storable(array.cell, &object.kind)?;
+    let at = place_in(array.len, i)?;
+    store_item(mem, array, at, object.copy()?)?;
+    operands.shrink(3);
+    Ok(())
+}
+
+/// Puts the newest operand at a place of a string.
+#[tactic(auto, using(ps_operator::proofs::Fitting::place_below))]
+fn put_byte<M: Mem>(state: &mut State, mem: &mut M, i: i32, string: Interval) -> Result<(), Refusal>
+    requires string { is_string (M.log mem.old).view string ≡ true }
+    requires there { 3 ≤ length (ops state.old) }
+    ensures { Does (λ s. spec.byte_put s i string) state.old (M.log mem.old)
+        result state.new (M.log mem.new) }
+{
+    let operands = &mut state.regs.operands;
+    let n = operands.integer(0)?;
+    operands.writable(2)?;
+    let at = place_in(string.len, i)?;
+    let byte = byte_of(n)?;
+    store_byte(mem, string, at, byte)?;
+    operands.shrink(3);
+    Ok(())
+}
+
+#[tactic(auto, using(crate::proofs::Standing::part_stands))]
+pub(crate) fn put<M: Mem>(state: &mut State, mem: &mut M) -> Result<(), Refusal>
+    requires { Ready state.old (M.log mem.old).view }
+    ensures { Does spec.put state.old (M.log mem.old) result state.new (M.log mem.new) }
+{
+    let operands = &state.regs.operands;
+    operands.need(3)?;
+    let i = operands.integer(1)?;
+    match part_at(operands, 2)? {
+        Part::Items(array) => put_item(state, mem, i, array),
+        Part::Bytes(string) => put_byte(state, mem, i, string),
+    }
+}
