@@ -1,7 +1,7 @@
 -- A step of the loop that copies operands.
-use Rattle.std.proofs.Common.{◌≡◌, ℕ, zero, suc, ◌+◌, ◌-◌, ◌<◌, ◌≤◌, List, [], ◌∷◌, ◌++◌, take, drop, length, Option, Some, None, slice_get, Result, Ok, Err, refl, sym, ap, ◌∙◌, subst, arith}
+use Rattle.std.proofs.Common.{◌≡◌, ℕ, zero, suc, ◌+◌, ◌-◌, ◌<◌, ◌≤◌, List, [], ◌∷◌, ◌++◌, take, drop, length, Option, Some, None, slice_get, Ok, refl, sym, ap, ◌∙◌, arith}
 use Rattle.std.proofs.lemmas.List.{length-take-le, length-drop, length-append, get_or-append_right, get_or-take, drop_all}
-use Rattle.std.proofs.lemmas.Option.{slice_get-get_or, slice_get_within, get_or_from_slice_get}
+use Rattle.std.proofs.lemmas.Option.{slice_get-get_or, get_or_from_slice_get}
 use Rattle.std.specs.Prelude.{get_or}
 use Rattle.ps_objects.specs.declared.object.Object.{Object}
 use Rattle.ps_objects.specs.Operands.{object_at}
@@ -48,6 +48,11 @@ at_depth [] i x e = cc
 at_depth (y ∷ ys) zero x e = let p : y ≡ x = cc in ap Ok p
 at_depth (y ∷ ys) (suc i) x e = at_depth ys i x e
 
+there : (ys : List Object) (i : ℕ) → i < length ys → slice_get ys i ≡ None → ⊥
+there [] i k p = absurd (omega (arith, k))
+there (y ∷ ys) zero k p = cc
+there (y ∷ ys) (suc i) k p = there ys i (omega (arith, k)) p
+
 -- one copy more
 pub copies_step : (n count : ℕ) (xs old new : List Object) → n < count → count ≤ length xs → old ≡ so_far n count xs
     → ((x : Object) → object_at (count - 1) old ≡ Ok x → new ≡ x ∷ old) → new ≡ so_far (n + 1) count xs
@@ -59,11 +64,6 @@ copies_step n count xs old new l h e g = go (slice_get (so_far n count xs) (coun
         let r : object_at (count - 1) old ≡ Ok x = at_depth old (count - 1) x q in
         g x r ∙ ap (λ ys. x ∷ ys) e ∙ next n count xs l h x p
     go None p = absurd (there (so_far n count xs) (count - 1) (enough n count xs l h) p)
-
-    there : (ys : List Object) (i : ℕ) → i < length ys → slice_get ys i ≡ None → ⊥
-    there [] i k p = absurd (omega (arith, k))
-    there (y ∷ ys) zero k p = cc
-    there (y ∷ ys) (suc i) k p = there ys i (omega (arith, k)) p
 
 -- none is copied yet
 pub copies_begin : (count : ℕ) (xs : List Object) → count ≤ length xs → xs ≡ so_far 0 count xs

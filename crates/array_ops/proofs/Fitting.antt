@@ -1,5 +1,5 @@
 -- What is read, looked at and cut out of a state that fits, fits.
-use Rattle.std.proofs.Common.{◌≡◌, ℕ, zero, suc, ◌+◌, ◌<◌, ◌≤◌, Bool, true, false, not, ◌&&◌, ◌||◌, cond, nat_eq, nat_lt, ℤ, pos, negsuc, List, [], ◌∷◌, ◌++◌, take, drop, length, reverse, Option, Some, None, Result, Ok, Err, refl, sym, ap, ◌∙◌, subst, arith}
+use Rattle.std.proofs.Common.{◌≡◌, ℕ, zero, suc, ◌+◌, ◌<◌, ◌≤◌, Bool, true, false, not, ◌&&◌, ◌||◌, cond, nat_eq, nat_lt, ℤ, pos, negsuc, List, [], ◌∷◌, ◌++◌, take, drop, length, reverse, Option, Some, None, Result, Ok, Err, refl, sym, ap, subst, arith}
 use Rattle.std.proofs.lemmas.List.{length-append, length-reverse, reverse-append}
 use Rattle.std.specs.List.{AllByRecursion}
 use Rattle.ps_names.specs.declared.error_name.ErrorName.{ErrorName}
@@ -16,20 +16,22 @@ use Rattle.ps_objects.specs.declared.place.Shape.{Shape}
 use Rattle.ps_objects.specs.declared.place.Shape.TheVariants as shape
 use Rattle.ps_objects.specs.declared.place.Value.{Value}
 use Rattle.ps_objects.specs.declared.place.Value.TheVariants as value
+use Rattle.ps_kinds.specs.declared.frame.Frame.{Frame}
+use Rattle.ps_kinds.specs.declared.state.State.{State}
 use Rattle.ps_memory.specs.Memory.{is_global}
 use Rattle.ps_memory.specs.Tree.{Application}
 use Rattle.ps_meaning.specs.Fits.{Shapes, lies_within, takes, FitsCell, FitsObject, key_is_shared, value_is_shared, is_system_dict}
 use Rattle.ps_meaning.specs.Sound.{World, IsAnswer}
 use Rattle.ps_operator.specs.Budgets.{is_local, storable}
-use Rattle.ps_operator.specs.Lawful.{HasItems, HasBytes, Looks}
+use Rattle.ps_operator.specs.Lawful.{HasItems, HasBytes, Keeps, Lawfully, Looks}
 use Rattle.ps_operator.specs.Looks.{object_then, byte_then, look_item, look_byte}
-use Rattle.ps_operator.specs.Registers.{literal, any_of}
+use Rattle.ps_operator.specs.Registers.{any_of}
+use Rattle.ps_operator.specs.Tree.{Ask}
 use Rattle.ps_operator.proofs.Fitting.{Fit, drop_fits, array_fits, string_fits}
 use Rattle.ps_operator.proofs.Seeking.{Seeks, found_seeks, read_seeks}
-use Rattle.ps_operator.proofs.Storing.{AreShared}
 use Rattle.array_ops.specs.Intervals.{storable_from}
 use Rattle.array_ops.specs.Making.{names_local, all_storable, taken}
-use Rattle.array_ops.specs.Members.{byte_of, member}
+use Rattle.array_ops.specs.Members.{byte_of}
 use Rattle.array_ops.specs.Parts.{part_of, part_at, interval_of, piece, over, over_of}
 use Rattle.array_ops.specs.Spreading.{pushed_from}
 use Rattle.array_ops.specs.declared.parts.Part.{Part}
@@ -181,22 +183,18 @@ item_seeks {W = W} {P = P} {a = a} {i = i} {k = k} h l g = record { looks = (ite
     go (value.Rand n) e = absurd e
     go (value.Paper p) e = absurd e
 
-byte_seeks : {A : Type 0} {W : World} {P : A → Type 0} {a : Interval} {i : ℕ} {k : ℕ → Application A} → HasBytes W.shapes a → i < a.len
-    → ((b : ℕ) → b < 256 → Seeks W P (k b)) → Seeks W P (look_byte a i k)
-byte_seeks {W = W} {P = P} {a = a} {i = i} {k = k} h l g = record { looks = (byte_there W.shapes a i h l, go) }
+pub byte_keeps : {text : List ℕ} {most : ℕ} {below : List Frame} {s : State} {W : World} {a : Interval} {k : ℕ → Ask} (i : ℕ) → HasBytes W.shapes a → i < a.len
+    → ((b : ℕ) → Keeps text most below (k b) s W) → Keeps text most below (look_byte a i k) s W
+byte_keeps {text = text} {most = most} {below = below} {s = s} {W = W} {a = a} {k = k} i h l g = record { lawful = (byte_there W.shapes a i h l, go) }
   where
-    go : (v : Value) → IsAnswer W (loc.Byte a.cell (a.start + i)) v → Looks (byte_then k v) W P
-    go (value.Byte n) e = (g n e).looks
+    go : (v : Value) → IsAnswer W (loc.Byte a.cell (a.start + i)) v → Lawfully text most below (byte_then k v) s W
+    go (value.Byte n) e = (g n).lawful
     go value.Absent e = absurd e
     go (value.Object x) e = absurd e
     go (value.Access a) e = absurd e
     go (value.Keys ks) e = absurd e
     go (value.Rand n) e = absurd e
     go (value.Paper p) e = absurd e
-
-pub member_seeks : (W : World) (p : Part) (at : ℕ) → FitsPart W.shapes p → at < (interval_of p).len → Seeks W (FitsObject W.shapes) (member p at)
-member_seeks W (part.Items a) at h l = item_seeks h l (λ x f. found_seeks (FitsObject W.shapes) x f)
-member_seeks W (part.Bytes a) at h l = byte_seeks h l (λ b _. found_seeks (FitsObject W.shapes) (literal (kind.Integer (pos b))) tt)
 
 small_by : (n b : ℕ) (t : Bool) → nat_lt n 256 ≡ t → cond {A = Result ℕ ErrorName} t (Ok n) (Err RangeCheck) ≡ Ok b → nat_lt b 256 ≡ true
 small_by n b true p e = let q : n ≡ b = cc in subst (λ b. nat_lt b 256 ≡ true) q p

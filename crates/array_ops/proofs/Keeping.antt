@@ -1,5 +1,5 @@
 -- Each operator keeps a state that fits: its tree again, with what fits beside each look and end.
-use Rattle.std.proofs.Common.{◌≡◌, ℕ, suc, ℤ, pos, ◌+◌, ◌-◌, ◌<◌, ◌≤◌, Bool, true, false, List, [], ◌∷◌, ◌++◌, take, drop, length, Result, Ok, Err, refl, sym, subst, arith}
+use Rattle.std.proofs.Common.{◌≡◌, ℕ, suc, pos, ◌+◌, ◌-◌, ◌≤◌, Bool, true, false, cond, List, [], ◌∷◌, ◌++◌, take, drop, length, Result, Ok, refl, sym, subst, arith}
 use Rattle.ps_names.specs.declared.error_name.ErrorName.{ErrorName}
 use Rattle.ps_objects.specs.Object.{whole_of}
 use Rattle.ps_objects.specs.Operands.{needed, room_for, object_at, integer_at, boolean_at, array_at, readable_at, writable_at, typed}
@@ -11,11 +11,9 @@ use Rattle.ps_objects.specs.declared.place.Shape.{Shape}
 use Rattle.ps_objects.specs.declared.place.Shape.TheVariants as shape
 use Rattle.ps_kinds.specs.declared.state.State.{State}
 use Rattle.ps_meaning.specs.Answer.{names_taken}
-use Rattle.ps_meaning.specs.Fits.{FitsObject}
 use Rattle.ps_meaning.specs.Ready.{Fits}
 use Rattle.ps_meaning.specs.Sound.{World, made}
 use Rattle.ps_operator.specs.Budgets.{unit_room, storable}
-use Rattle.ps_operator.specs.Keys.{bytes_of}
 use Rattle.ps_operator.specs.Lawful.{HasItems, HasBytes, Leaves, Keeps, IsLawful}
 use Rattle.ps_operator.specs.Making.{next_cell}
 use Rattle.ps_operator.specs.Marks.{above_mark}
@@ -23,26 +21,28 @@ use Rattle.ps_operator.specs.Numbers.{natural_of, length_of, place_in}
 use Rattle.ps_operator.specs.Operators.{AreLawful}
 use Rattle.ps_operator.specs.Registers.{ops, literal, with_ops, spent, quiet}
 use Rattle.ps_operator.specs.Storing.{space_in, byte_stores, item_stores}
+use Rattle.ps_operator.specs.Tree.{Ask}
 use Rattle.ps_operator.proofs.Ending.{registers_keeps}
 use Rattle.ps_operator.proofs.Fitting.{Fit, drop_fits, object_fits, array_fits, place_below}
 use Rattle.ps_operator.proofs.Growing.{stays, new_here, all_grow, room_kept, made_leaves, made_keeps, new_fits}
-use Rattle.ps_operator.proofs.Lawful.{AreBytes, read_keeps, bytes_keeps, leaves_kept, leaves_keeps}
+use Rattle.ps_operator.proofs.Lawful.{read_keeps, item_keeps, bytes_keeps, leaves_kept, leaves_keeps}
 use Rattle.ps_operator.proofs.Running.{◌▹◌, all_lawful}
 use Rattle.ps_operator.proofs.Seeking.{seeking_keeps}
 use Rattle.ps_operator.proofs.StoreSteps.{bytes_take_none, items_take_none}
 use Rattle.ps_operator.proofs.Storing.{bytes_change, items_change, length_below, space_within, whole_lies}
 use Rattle.array_ops.specs.Making.{array_object, array, taken, all_storable, gathers, right_bracket, packedarray, setpacking, currentpacking}
-use Rattle.array_ops.specs.Members.{size_of, size_right_at, number_told, size, member, get, byte_of, item_put, byte_put, member_put, put}
-use Rattle.array_ops.specs.Intervals.{getinterval, move_of, storable_items, early_space, items_move, bytes_move, put_move, putinterval, front_left, copy_move, copy_to, copy_part, more_room, copy_operands, copy_by, copy}
-use Rattle.array_ops.specs.Parts.{part_at, interval_of, piece, over_of}
+use Rattle.array_ops.specs.Members.{size_of, size_right_at, number_told, size, member_told, get, byte_of, member_put, put}
+use Rattle.array_ops.specs.Intervals.{getinterval, move_of, storable_items, early_room, items_move, bytes_move, put_move, room_at, putinterval, front_room, front_left, copy_move, copy_part, more_room, copy_operands, is_integer_at, copy}
+use Rattle.array_ops.specs.Parts.{count_at, part_at, interval_of, piece, over_of}
 use Rattle.array_ops.specs.Spreading.{pushed_from, aload, astore}
 use Rattle.array_ops.specs.Operators.{operators, run}
 use Rattle.array_ops.specs.declared.intervals.Move.{Move}
 use Rattle.array_ops.specs.declared.intervals.Move.TheVariants as move
 use Rattle.array_ops.specs.declared.parts.Part.{Part}
 use Rattle.array_ops.specs.declared.parts.Part.TheVariants as part
-use Rattle.array_ops.proofs.Fitting.{FitsPart, part_fits, cut_fits, take_fits, append_fits, taken_fits, taken_within, storable_shared, taken_shared, item_there, byte_there, member_seeks, byte_small, GoIn, storable_seeks, pushed_seeks}
+use Rattle.array_ops.proofs.Fitting.{FitsPart, part_fits, cut_fits, take_fits, append_fits, taken_fits, taken_within, storable_shared, taken_shared, item_there, byte_there, byte_keeps, byte_small, GoIn, storable_seeks, pushed_seeks}
 use Rattle.array_ops.proofs.Gathering.{room_small}
+use Rattle.array_ops.proofs.Standing.{room_within}
 
 -- ---- new arrays
 
@@ -92,10 +92,9 @@ right_bracket_keeps text s W f = read_keeps (above_mark (ops s)) (λ n _. gather
 packedarray_keeps : IsLawful packedarray
 packedarray_keeps text s W f =
     read_keeps (needed 1 (ops s)) (λ _ _.
-    read_keeps (integer_at 0 (ops s)) (λ i _.
-    read_keeps (natural_of i) (λ n _.
+    read_keeps (count_at 0 (ops s)) (λ n _.
     read_keeps (needed (n + 1) (ops s)) (λ _ _.
-    gathers_keeps f 1 n true))))
+    gathers_keeps f 1 n true)))
 
 -- ---- the packing mode
 
@@ -122,21 +121,31 @@ size_keeps text s W f =
     read_keeps (number_told n) (λ i _.
     leaves_keeps f (literal (kind.Integer i) ∷ drop 1 (ops s)) (tt, drop_fits W.shapes 1 (ops s) f.state.registers.operands)))))
 
+member_told_keeps : {text : List ℕ} {s : State} {W : World} → Fits text W s → (p : Part) → FitsPart W.shapes p → Keeps text 4 s.frames (member_told s p) s W
+member_told_keeps {s = s} {W = W} f (part.Items a) h =
+    read_keeps (integer_at 0 (ops s)) (λ i _.
+    read_keeps (readable_at 1 (ops s)) (λ _ _.
+    read_keeps (place_in a.len i) (λ at q.
+    item_keeps at h (place_below a.len i at q) (λ x g.
+    leaves_keeps f (x ∷ drop 2 (ops s)) (g, drop_fits W.shapes 2 (ops s) f.state.registers.operands)))))
+member_told_keeps {s = s} {W = W} f (part.Bytes a) h =
+    read_keeps (integer_at 0 (ops s)) (λ i _.
+    read_keeps (readable_at 1 (ops s)) (λ _ _.
+    read_keeps (place_in a.len i) (λ at q.
+    byte_keeps at h (place_below a.len i at q) (λ b.
+    leaves_keeps f (literal (kind.Integer (pos b)) ∷ drop 2 (ops s)) (tt, drop_fits W.shapes 2 (ops s) f.state.registers.operands)))))
+
 get_keeps : IsLawful get
 get_keeps text s W f =
-    let o : Fit W.shapes (ops s) = f.state.registers.operands in
     read_keeps (needed 2 (ops s)) (λ _ _.
-    read_keeps (integer_at 0 (ops s)) (λ i _.
     read_keeps (part_at 1 (ops s)) (λ p e.
-    read_keeps (readable_at 1 (ops s)) (λ _ _.
-    read_keeps (place_in (interval_of p).len i) (λ at q.
-    seeking_keeps (FitsObject W.shapes) (member p at) (member_seeks W p at (part_fits W.shapes (ops s) 1 p o e) (place_below (interval_of p).len i at q)) (λ x g.
-    leaves_keeps f (x ∷ drop 2 (ops s)) (g, drop_fits W.shapes 2 (ops s) o)))))))
+    member_told_keeps f p (part_fits W.shapes (ops s) 1 p f.state.registers.operands e)))
 
-member_put_keeps : {text : List ℕ} {s : State} {W : World} → Fits text W s → (i : ℤ) (p : Part) → FitsPart W.shapes p → Keeps text 4 s.frames (member_put s i p) s W
-member_put_keeps {text = text} {s = s} {W = W} f i (part.Items a) h =
+member_put_keeps : {text : List ℕ} {s : State} {W : World} → Fits text W s → (p : Part) → FitsPart W.shapes p → Keeps text 4 s.frames (member_put s p) s W
+member_put_keeps {text = text} {s = s} {W = W} f (part.Items a) h =
     let o : Fit W.shapes (ops s) = f.state.registers.operands in
     read_keeps (object_at 0 (ops s)) (λ x e.
+    read_keeps (integer_at 1 (ops s)) (λ i _.
     read_keeps (writable_at 2 (ops s)) (λ _ _.
     read_keeps (storable a.cell x.kind) (λ _ r.
     read_keeps (place_in a.len i) (λ at q.
@@ -148,10 +157,11 @@ member_put_keeps {text = text} {s = s} {W = W} f i (part.Items a) h =
         storable_shared a.cell x r,
         leaves_kept text 4 s W f (drop 3 (ops s)) (drop_fits W.shapes 3 (ops s) o),
       );
-    }))))
-member_put_keeps {text = text} {s = s} {W = W} f i (part.Bytes a) h =
+    })))))
+member_put_keeps {text = text} {s = s} {W = W} f (part.Bytes a) h =
     let o : Fit W.shapes (ops s) = f.state.registers.operands in
     read_keeps (integer_at 0 (ops s)) (λ n _.
+    read_keeps (integer_at 1 (ops s)) (λ i _.
     read_keeps (writable_at 2 (ops s)) (λ _ _.
     read_keeps (place_in a.len i) (λ at q.
     read_keeps (byte_of n) (λ b r.
@@ -163,14 +173,13 @@ member_put_keeps {text = text} {s = s} {W = W} f i (part.Bytes a) h =
         tt,
         leaves_kept text 4 s W f (drop 3 (ops s)) (drop_fits W.shapes 3 (ops s) o),
       );
-    }))))
+    })))))
 
 put_keeps : IsLawful put
 put_keeps text s W f =
     read_keeps (needed 3 (ops s)) (λ _ _.
-    read_keeps (integer_at 1 (ops s)) (λ i _.
     read_keeps (part_at 2 (ops s)) (λ p e.
-    member_put_keeps f i p (part_fits W.shapes (ops s) 2 p f.state.registers.operands e))))
+    member_put_keeps f p (part_fits W.shapes (ops s) 2 p f.state.registers.operands e)))
 
 -- ---- parts that are cut out, and moves
 
@@ -195,13 +204,17 @@ by_count at n m len e l = omega (arith, e, l)
 abbrev LeftFits : World → Interval → Interval → List Object → Type 0
 LeftFits W target source xs = (at : ℕ) → at + source.len ≤ target.len → Fit W.shapes xs
 
-items_move_keeps : {text : List ℕ} {s : State} {W : World} → Fits text W s → (target source : Interval) (i : ℤ) (xs : List Object) → HasItems W.shapes target → HasItems W.shapes source → LeftFits W target source xs
-    → Keeps text 4 s.frames (items_move s target source i xs) s W
-items_move_keeps {text = text} {s = s} {W = W} f target source i xs ht hs h =
-    read_keeps (early_space target source i) (λ _ _.
+-- where there is room, the source fits
+abbrev HasRoom : Interval → Interval → Result ℕ ErrorName → Type 0
+HasRoom target source room = (at : ℕ) → room ≡ Ok at → at + source.len ≤ target.len
+
+items_move_keeps : {text : List ℕ} {s : State} {W : World} → Fits text W s → (target source : Interval) (room : Result ℕ ErrorName) (xs : List Object) → HasItems W.shapes target → HasItems W.shapes source → HasRoom target source room
+    → LeftFits W target source xs → Keeps text 4 s.frames (items_move s target source room xs) s W
+items_move_keeps {text = text} {s = s} {W = W} f target source room xs ht hs r h =
+    read_keeps (early_room target room) (λ _ _.
     seeking_keeps (GoIn W.shapes target.cell source.len) (storable_items target.cell source) (storable_seeks W target.cell source hs 0 source.len [] (omega arith) (record { fits = tt; shared = tt; count = refl })) (λ items g.
-    read_keeps (space_in target.len source.len i) (λ at q.
-    let l = space_within target.len source.len i at q in
+    read_keeps room (λ at q.
+    let l = r at q in
     let e = quiet (with_ops s xs) in
     record {
       lawful = items_change W s.count (Leaves text 4 s.frames s (names_taken (item_stores target at items)) e) target ht at items
@@ -209,12 +222,12 @@ items_move_keeps {text = text} {s = s} {W = W} f target source i xs ht hs h =
           (subst (λ k. Leaves text 4 s.frames s k e W) (sym (items_take_none target at items)) (leaves_kept text 4 s W f xs (h at l)));
     })))
 
-bytes_move_keeps : {text : List ℕ} {s : State} {W : World} → Fits text W s → (target source : Interval) (i : ℤ) (xs : List Object) → HasBytes W.shapes target → HasBytes W.shapes source → LeftFits W target source xs
-    → Keeps text 4 s.frames (bytes_move s target source i xs) s W
-bytes_move_keeps {text = text} {s = s} {W = W} f target source i xs ht hs h =
-    read_keeps (space_in target.len source.len i) (λ at q.
+bytes_move_keeps : {text : List ℕ} {s : State} {W : World} → Fits text W s → (target source : Interval) (room : Result ℕ ErrorName) (xs : List Object) → HasBytes W.shapes target → HasBytes W.shapes source → HasRoom target source room
+    → LeftFits W target source xs → Keeps text 4 s.frames (bytes_move s target source room xs) s W
+bytes_move_keeps {text = text} {s = s} {W = W} f target source room xs ht hs r h =
+    read_keeps room (λ at q.
     bytes_keeps hs (λ bs g.
-    let l = space_within target.len source.len i at q in
+    let l = r at q in
     let e = quiet (with_ops s xs) in
     record {
       lawful = bytes_change W s.count (Leaves text 4 s.frames s (names_taken (byte_stores target at bs)) e) target ht at bs
@@ -224,30 +237,29 @@ bytes_move_keeps {text = text} {s = s} {W = W} f target source i xs ht hs h =
 
 -- ---- putinterval
 
-put_move_keeps : {text : List ℕ} {s : State} {W : World} → Fits text W s → (i : ℤ) (p q : Part) (m : Move) → FitsPart W.shapes p → FitsPart W.shapes q → move_of p q ≡ Ok m
-    → Keeps text 4 s.frames (put_move s i m) s W
-put_move_keeps {text = text} {s = s} {W = W} f i (part.Items t) (part.Items o) m hp hq e =
+put_move_keeps : {text : List ℕ} {s : State} {W : World} → Fits text W s → (p q : Part) (m : Move) → FitsPart W.shapes p → FitsPart W.shapes q → move_of p q ≡ Ok m → Keeps text 4 s.frames (put_move s m) s W
+put_move_keeps {text = text} {s = s} {W = W} f (part.Items t) (part.Items o) m hp hq e =
     let same : move.Items t o ≡ m = cc in
-    subst (λ m. Keeps text 4 s.frames (put_move s i m) s W) same
-    (items_move_keeps f t o i (drop 3 (ops s)) hp hq (λ _ _. drop_fits W.shapes 3 (ops s) f.state.registers.operands))
-put_move_keeps {text = text} {s = s} {W = W} f i (part.Bytes t) (part.Bytes o) m hp hq e =
+    subst (λ m. Keeps text 4 s.frames (put_move s m) s W) same
+    (items_move_keeps f t o (room_at 1 t o (ops s)) (drop 3 (ops s)) hp hq (room_within 1 t o (ops s)) (λ _ _. drop_fits W.shapes 3 (ops s) f.state.registers.operands))
+put_move_keeps {text = text} {s = s} {W = W} f (part.Bytes t) (part.Bytes o) m hp hq e =
     let same : move.Bytes t o ≡ m = cc in
-    subst (λ m. Keeps text 4 s.frames (put_move s i m) s W) same
-    (bytes_move_keeps f t o i (drop 3 (ops s)) hp hq (λ _ _. drop_fits W.shapes 3 (ops s) f.state.registers.operands))
-put_move_keeps f i (part.Items t) (part.Bytes o) m hp hq e = cc
-put_move_keeps f i (part.Bytes t) (part.Items o) m hp hq e = cc
+    subst (λ m. Keeps text 4 s.frames (put_move s m) s W) same
+    (bytes_move_keeps f t o (room_at 1 t o (ops s)) (drop 3 (ops s)) hp hq (room_within 1 t o (ops s)) (λ _ _. drop_fits W.shapes 3 (ops s) f.state.registers.operands))
+put_move_keeps f (part.Items t) (part.Bytes o) m hp hq e = cc
+put_move_keeps f (part.Bytes t) (part.Items o) m hp hq e = cc
 
 putinterval_keeps : IsLawful putinterval
 putinterval_keeps text s W f =
     let o : Fit W.shapes (ops s) = f.state.registers.operands in
     read_keeps (needed 3 (ops s)) (λ _ _.
     read_keeps (part_at 0 (ops s)) (λ source p.
-    read_keeps (integer_at 1 (ops s)) (λ i _.
+    read_keeps (integer_at 1 (ops s)) (λ _ _.
     read_keeps (part_at 2 (ops s)) (λ target q.
     read_keeps (move_of target source) (λ m e.
     read_keeps (readable_at 0 (ops s)) (λ _ _.
     read_keeps (writable_at 2 (ops s)) (λ _ _.
-    put_move_keeps f i target source m (part_fits W.shapes (ops s) 2 target o q) (part_fits W.shapes (ops s) 0 source o p) e)))))))
+    put_move_keeps f target source m (part_fits W.shapes (ops s) 2 target o q) (part_fits W.shapes (ops s) 0 source o p) e)))))))
 
 -- ---- copy
 
@@ -267,12 +279,12 @@ copy_move_keeps {text = text} {s = s} {W = W} f x (part.Items t) (part.Items o) 
     let same : move.Items t o ≡ m = cc in
     let r : Fit W.shapes (ops s) = f.state.registers.operands in
     subst (λ m. Keeps text 4 s.frames (copy_move s x m) s W) same
-    (items_move_keeps f t o (pos 0) (front_left s t o x) (part_fits W.shapes (ops s) 0 (part.Items t) r hp) (part_fits W.shapes (ops s) 1 (part.Items o) r hq) (front_fits f (part.Items t) x hp g o))
+    (items_move_keeps f t o (front_room t o) (front_left s t o x) (part_fits W.shapes (ops s) 0 (part.Items t) r hp) (part_fits W.shapes (ops s) 1 (part.Items o) r hq) (space_within t.len o.len (pos 0)) (front_fits f (part.Items t) x hp g o))
 copy_move_keeps {text = text} {s = s} {W = W} f x (part.Bytes t) (part.Bytes o) m hp hq g e =
     let same : move.Bytes t o ≡ m = cc in
     let r : Fit W.shapes (ops s) = f.state.registers.operands in
     subst (λ m. Keeps text 4 s.frames (copy_move s x m) s W) same
-    (bytes_move_keeps f t o (pos 0) (front_left s t o x) (part_fits W.shapes (ops s) 0 (part.Bytes t) r hp) (part_fits W.shapes (ops s) 1 (part.Bytes o) r hq) (front_fits f (part.Bytes t) x hp g o))
+    (bytes_move_keeps f t o (front_room t o) (front_left s t o x) (part_fits W.shapes (ops s) 0 (part.Bytes t) r hp) (part_fits W.shapes (ops s) 1 (part.Bytes o) r hq) (space_within t.len o.len (pos 0)) (front_fits f (part.Bytes t) x hp g o))
 copy_move_keeps f x (part.Items t) (part.Bytes o) m hp hq g e = cc
 copy_move_keeps f x (part.Bytes t) (part.Items o) m hp hq g e = cc
 
@@ -287,17 +299,22 @@ copy_part_keeps text s W f =
     read_keeps (object_at 0 (ops s)) (λ x g.
     copy_move_keeps f x target source m p q g e)))))))
 
-copy_by_keeps : (text : List ℕ) (s : State) (W : World) → Fits text W s → (r : Result ℤ ErrorName) → Keeps text 4 s.frames (copy_by s r) s W
-copy_by_keeps text s W f (Ok i) =
+copy_operands_keeps : IsLawful copy_operands
+copy_operands_keeps text s W f =
     let o : Fit W.shapes (drop 1 (ops s)) = drop_fits W.shapes 1 (ops s) f.state.registers.operands in
-    read_keeps (natural_of i) (λ n _.
+    read_keeps (count_at 0 (ops s)) (λ n _.
     read_keeps (needed (n + 1) (ops s)) (λ _ _.
     read_keeps (more_room (n - 1) (ops s)) (λ _ _.
     leaves_keeps f (take n (drop 1 (ops s)) ++ drop 1 (ops s)) (append_fits W.shapes (take n (drop 1 (ops s))) (drop 1 (ops s)) (take_fits W.shapes n (drop 1 (ops s)) o) o))))
-copy_by_keeps text s W f (Err e) = copy_part_keeps text s W f
+
+either_keeps : {text : List ℕ} {s : State} {W : World} {t u : Ask} (b : Bool) → Keeps text 4 s.frames t s W → Keeps text 4 s.frames u s W → Keeps text 4 s.frames (cond b t u) s W
+either_keeps true h g = h
+either_keeps false h g = g
 
 copy_keeps : IsLawful copy
-copy_keeps text s W f = read_keeps (needed 1 (ops s)) (λ _ _. copy_by_keeps text s W f (integer_at 0 (ops s)))
+copy_keeps text s W f =
+    read_keeps (needed 1 (ops s)) (λ _ _.
+    either_keeps (is_integer_at 0 (ops s)) (copy_operands_keeps text s W f) (copy_part_keeps text s W f))
 
 -- ---- the operand stack
 

@@ -3,4 +3,5 @@ pub mod Moving
 pub mod Copying
 pub mod Gathering
 pub mod Fitting
+pub mod Going
 pub mod Keeping

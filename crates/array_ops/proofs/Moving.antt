@@ -1,5 +1,6 @@
 -- Steps of the loops that look at items.
-use Rattle.std.proofs.Common.{◌≡◌, ℕ, suc, ◌+◌, ◌-◌, ◌<◌, List, [], ◌∷◌, ◌++◌, Result, Ok, Err, sym, ap, ◌∙◌, arith}
+use Rattle.std.proofs.Common.{◌≡◌, ℕ, suc, ◌+◌, ◌-◌, ◌<◌, List, [], ◌∷◌, ◌++◌, length, Ok, Err, sym, ap, ◌∙◌, arith}
+use Rattle.std.proofs.lemmas.List.{length_push}
 use Rattle.ps_names.specs.declared.error_name.ErrorName.{ErrorName}
 use Rattle.ps_objects.specs.declared.cell.Cell.{Cell}
 use Rattle.ps_objects.specs.declared.object.Object.{Object}
@@ -53,3 +54,7 @@ pub push_step : (a : Interval) (i : ℕ) (xs : List Object) (log : Log) (x : Obj
 push_step a i xs log x l v =
     ap (λ n. reads (pushed_from a i n xs) log) (one_left i a.len l)
     ∙ ap (λ w. reads (object_then (λ x. pushed_from a (i + 1) (a.len - (i + 1)) (x ∷ xs)) w) (looked_in log (loc.Item a.cell (a.start + i)))) v
+
+-- an item more
+pub one_more : (n : ℕ) (xs : List Object) (x : Object) (ys : List Object) → length xs ≡ n → ys ≡ xs ++ x ∷ [] → length ys ≡ n + 1
+one_more n xs x ys e g = let p : length (xs ++ x ∷ []) ≡ length xs + 1 = length_push xs x in ap length g ∙ p ∙ ap (λ m. m + 1) e

@@ -1,7 +1,8 @@
 -- What parts that are operands stand for.
-use Rattle.std.proofs.Common.{◌≡◌, ℕ, zero, suc, ◌+◌, ◌^◌, ◌<◌, Bool, true, false, ◌&&◌, List, [], ◌∷◌, Option, Some, None, Result, Ok, Err, refl, ap, arith}
+use Rattle.std.proofs.Common.{◌≡◌, ℕ, zero, suc, ◌+◌, ◌^◌, ◌<◌, ◌≤◌, ℤ, Bool, true, false, ◌&&◌, List, [], ◌∷◌, Option, Some, None, Result, Ok, Err, refl, ap, ◌∙◌, arith}
 use Rattle.std.specs.FinMap.{get}
-use Rattle.ps_objects.specs.Operands.{array_of, array_at, string_of, string_at}
+use Rattle.ps_objects.specs.Operands.{integer_at, array_of, array_at, string_of, string_at}
+use Rattle.ps_names.specs.declared.error_name.ErrorName.{ErrorName}
 use Rattle.ps_objects.specs.declared.object.Kind.{Kind}
 use Rattle.ps_objects.specs.declared.object.Kind.TheVariants as kind
 use Rattle.ps_objects.specs.declared.object.Object.{Object}
@@ -14,8 +15,11 @@ use Rattle.ps_meaning.specs.Fits.{lies_within}
 use Rattle.ps_meaning.specs.Ready.{Ready}
 use Rattle.vm_mem.specs.Conditions.{page_is_here}
 use Rattle.ps_operator.specs.Standing.{has_items, has_bytes, is_array, is_string}
+use Rattle.ps_operator.proofs.Storing.{space_within}
 use Rattle.ps_operator.proofs.Standing.{array_stands, string_stands}
 use Rattle.array_ops.specs.Parts.{part_of, part_at, interval_of, is_part}
+use Rattle.array_ops.specs.Intervals.{move_of, room_of, room_at}
+use Rattle.array_ops.specs.declared.intervals.Move.TheVariants as move
 use Rattle.array_ops.specs.declared.parts.Part.{Part}
 use Rattle.array_ops.specs.declared.parts.Part.TheVariants as part
 
@@ -79,6 +83,26 @@ ends : (M : Memory) (p : Part) → is_part M p ≡ true → (interval_of p).star
 ends M (part.Items a) h = array_ends M a h
 ends M (part.Bytes a) h = string_ends M a h
 
+-- ---- parts that move
+
+moved_items : (p q : Part) (t o : Interval) → move_of p q ≡ Ok (move.Items t o) → (p ≡ part.Items t) × (q ≡ part.Items o)
+moved_items (part.Items a) (part.Items b) t o e =
+    let x : a ≡ t = cc in
+    let y : b ≡ o = cc in
+    (ap part.Items x, ap part.Items y)
+moved_items (part.Items a) (part.Bytes b) t o e = cc
+moved_items (part.Bytes a) (part.Items b) t o e = cc
+moved_items (part.Bytes a) (part.Bytes b) t o e = cc
+
+moved_bytes : (p q : Part) (t o : Interval) → move_of p q ≡ Ok (move.Bytes t o) → (p ≡ part.Bytes t) × (q ≡ part.Bytes o)
+moved_bytes (part.Bytes a) (part.Bytes b) t o e =
+    let x : a ≡ t = cc in
+    let y : b ≡ o = cc in
+    (ap part.Bytes x, ap part.Bytes y)
+moved_bytes (part.Items a) (part.Bytes b) t o e = cc
+moved_bytes (part.Bytes a) (part.Items b) t o e = cc
+moved_bytes (part.Items a) (part.Items b) t o e = cc
+
 -- ---- parts that are operands of a sound state
 
 module _ (s : State) (M : Memory) (r : Ready s M) where
@@ -86,5 +110,34 @@ module _ (s : State) (M : Memory) (r : Ready s M) where
   part_stands i (part.Items a) e = array_stands s M r i a (as_array s.regs.operands i a e)
   part_stands i (part.Bytes a) e = string_stands s M r i a (as_string s.regs.operands i a e)
 
+  pub items_stand : (i : ℕ) (a : Interval) → part_at i s.regs.operands ≡ Ok (part.Items a) → is_array M a ≡ true
+  items_stand i a e = part_stands i (part.Items a) e
+
+  pub bytes_stand : (i : ℕ) (a : Interval) → part_at i s.regs.operands ≡ Ok (part.Bytes a) → is_string M a ≡ true
+  bytes_stand i a e = part_stands i (part.Bytes a) e
+
   pub part_ends : (i : ℕ) (p : Part) → part_at i s.regs.operands ≡ Ok p → (interval_of p).start + (interval_of p).len < 2 ^ 32
   part_ends i p e = ends M p (part_stands i p e)
+
+  -- ---- both parts of a move
+
+  pub target_items : (i : ℕ) (p q : Part) (t o : Interval) → part_at i s.regs.operands ≡ Ok p → move_of p q ≡ Ok (move.Items t o) → is_array M t ≡ true
+  target_items i p q t o e m = items_stand i t (e ∙ ap Ok (moved_items p q t o m).0)
+
+  pub source_items : (i : ℕ) (p q : Part) (t o : Interval) → part_at i s.regs.operands ≡ Ok q → move_of p q ≡ Ok (move.Items t o) → is_array M o ≡ true
+  source_items i p q t o e m = items_stand i o (e ∙ ap Ok (moved_items p q t o m).1)
+
+  pub target_bytes : (i : ℕ) (p q : Part) (t o : Interval) → part_at i s.regs.operands ≡ Ok p → move_of p q ≡ Ok (move.Bytes t o) → is_string M t ≡ true
+  target_bytes i p q t o e m = bytes_stand i t (e ∙ ap Ok (moved_bytes p q t o m).0)
+
+  pub source_bytes : (i : ℕ) (p q : Part) (t o : Interval) → part_at i s.regs.operands ≡ Ok q → move_of p q ≡ Ok (move.Bytes t o) → is_string M o ≡ true
+  source_bytes i p q t o e m = bytes_stand i o (e ∙ ap Ok (moved_bytes p q t o m).1)
+
+-- ---- room
+
+room_by : (target source : Interval) (r : Result ℤ ErrorName) (at : ℕ) → room_of target source r ≡ Ok at → at + source.len ≤ target.len
+room_by target source (Ok i) at e = space_within target.len source.len i at e
+room_by target source (Err x) at e = cc
+
+pub room_within : (depth : ℕ) (target source : Interval) (xs : List Object) (at : ℕ) → room_at depth target source xs ≡ Ok at → at + source.len ≤ target.len
+room_within depth target source xs at e = room_by target source (integer_at depth xs) at e

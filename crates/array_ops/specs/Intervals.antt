@@ -16,7 +16,7 @@ use Rattle.ps_operator.specs.Looks.{look_item}
 use Rattle.ps_operator.specs.Numbers.{natural_of}
 use Rattle.ps_operator.specs.Registers.{ops, with_ops, quiet, leaves}
 use Rattle.ps_operator.specs.Storing.{space_in, byte_stores, item_stores}
-use Rattle.array_ops.specs.Parts.{part_at, interval_of, piece, over_of}
+use Rattle.array_ops.specs.Parts.{count_at, part_at, interval_of, piece, over_of}
 use Rattle.array_ops.specs.declared.parts.Part.{Part}
 use Rattle.array_ops.specs.declared.parts.Part.TheVariants as part
 use Rattle.array_ops.specs.declared.intervals.Move.{Move}
@@ -55,45 +55,55 @@ storable_from c a at (suc n) seen =
 abbrev pub storable_items : Cell → Interval → Application (List Object)
 storable_items c a = storable_from c a 0 a.len []
 
--- whether the source fits in the target from a place on, where no item need be looked at to know what else is refused
-abbrev pub early_space : Interval → Interval → ℤ → Result (Unit {0}) ErrorName
-early_space target source i =
-    if is_global target.cell then Ok tt
-    else elim (space_in target.len source.len i) [ Ok at ↦ Ok tt | Err e ↦ Err e ]
+-- the room for the items is asked for early, where no item need be looked at to know what else is refused
+abbrev pub early_room : Interval → Result ℕ ErrorName → Result (Unit {0}) ErrorName
+early_room target room =
+    if is_global target.cell then Ok tt else elim room [ Ok at ↦ Ok tt | Err e ↦ Err e ]
 
 -- all items are looked at before the first is stored; these operands are left
-abbrev pub items_move : State → Interval → Interval → ℤ → List Object → Ask
-items_move s target source i xs =
-    read (early_space target source i) (λ _.
+abbrev pub items_move : State → Interval → Interval → Result ℕ ErrorName → List Object → Ask
+items_move s target source room xs =
+    read (early_room target room) (λ _.
     look_then (storable_items target.cell source) (λ items.
-    read (space_in target.len source.len i) (λ at.
+    read room (λ at.
     done (item_stores target at items) (quiet (with_ops s xs)))))
 
 -- the same of bytes
-abbrev pub bytes_move : State → Interval → Interval → ℤ → List Object → Ask
-bytes_move s target source i xs =
-    read (space_in target.len source.len i) (λ at.
+abbrev pub bytes_move : State → Interval → Interval → Result ℕ ErrorName → List Object → Ask
+bytes_move s target source room xs =
+    read room (λ at.
     look_then (bytes_of source) (λ bytes.
     done (byte_stores target at bytes) (quiet (with_ops s xs))))
 
 -- ---- putinterval
 
--- to a place of the target, which goes with the other operands
-abbrev pub put_move : State → ℤ → Move → Ask
-put_move s i (move.Items target source) = items_move s target source i (drop 3 (ops s))
-put_move s i (move.Bytes target source) = bytes_move s target source i (drop 3 (ops s))
+-- a place from which on the source fits in the target
+abbrev pub room_of : Interval → Interval → Result ℤ ErrorName → Result ℕ ErrorName
+room_of target source (Ok i) = space_in target.len source.len i
+room_of target source (Err e) = Err e
+
+-- the same as an operand
+abbrev pub room_at : ℕ → Interval → Interval → List Object → Result ℕ ErrorName
+room_at depth target source xs = room_of target source (integer_at depth xs)
+
+-- to that place of the target, which goes with the other operands
+abbrev pub put_move : State → Move → Ask
+put_move s (move.Items target source) =
+    items_move s target source (room_at 1 target source (ops s)) (drop 3 (ops s))
+put_move s (move.Bytes target source) =
+    bytes_move s target source (room_at 1 target source (ops s)) (drop 3 (ops s))
 
 -- a i b putinterval, s i t putinterval: all of b in a, from a place on
 abbrev pub putinterval : State → Ask
 putinterval s =
     read (needed 3 (ops s)) (λ _.
     read (part_at 0 (ops s)) (λ source.
-    read (integer_at 1 (ops s)) (λ i.
+    read (integer_at 1 (ops s)) (λ _.
     read (part_at 2 (ops s)) (λ target.
     read (move_of target source) (λ m.
     read (readable_at 0 (ops s)) (λ _.
     read (writable_at 2 (ops s)) (λ _.
-    put_move s i m)))))))
+    put_move s m)))))))
 
 -- ---- copy
 
@@ -101,12 +111,16 @@ putinterval s =
 abbrev pub front_left : State → Interval → Interval → Object → List Object
 front_left s target source x = over_of (piece target 0 source.len) x ∷ drop 2 (ops s)
 
+-- the source fits at the front of the target
+abbrev pub front_room : Interval → Interval → Result ℕ ErrorName
+front_room target source = space_in target.len source.len (pos 0)
+
 -- to the front of the target, which is left
 abbrev pub copy_move : State → Object → Move → Ask
 copy_move s x (move.Items target source) =
-    items_move s target source (pos 0) (front_left s target source x)
+    items_move s target source (front_room target source) (front_left s target source x)
 copy_move s x (move.Bytes target source) =
-    bytes_move s target source (pos 0) (front_left s target source x)
+    bytes_move s target source (front_room target source) (front_left s target source x)
 
 -- the newest operand is the target
 abbrev pub copy_to : State → Move → Ask
@@ -128,20 +142,19 @@ abbrev pub more_room : ℕ → List Object → Result (Unit {0}) ErrorName
 more_room n xs = if nat_lt 0 n then room_for n xs else Ok tt
 
 -- x .. n copy x .. x ..: the newest n operands once more
-abbrev pub copy_operands : State → ℤ → Ask
-copy_operands s i =
-    read (natural_of i) (λ n.
+abbrev pub copy_operands : State → Ask
+copy_operands s =
+    read (count_at 0 (ops s)) (λ n.
     read (needed (n + 1) (ops s)) (λ _.
     read (more_room (n - 1) (ops s)) (λ _.
     leaves s (take n (drop 1 (ops s)) ++ drop 1 (ops s)))))
 
--- operands are copied where the newest is an integer, else a part
-abbrev pub copy_by : State → Result ℤ ErrorName → Ask
-copy_by s (Ok i) = copy_operands s i
-copy_by s (Err e) = copy_part s
+-- the operand is an integer
+abbrev pub is_integer_at : ℕ → List Object → Bool
+is_integer_at depth xs = elim (integer_at depth xs) [ Ok i ↦ true | Err e ↦ false ]
 
--- x .. n copy, a b copy, s t copy
+-- x .. n copy, a b copy, s t copy: operands where the newest is an integer
 abbrev pub copy : State → Ask
 copy s =
     read (needed 1 (ops s)) (λ _.
-    copy_by s (integer_at 0 (ops s)))
+    cond (is_integer_at 0 (ops s)) (copy_operands s) (copy_part s))

@@ -20,6 +20,7 @@ use Rattle.ps_operator.specs.Marks.{above_mark}
 use Rattle.ps_operator.specs.Numbers.{natural_of, length_of}
 use Rattle.ps_operator.specs.Registers.{ops, literal, with_ops, spent, quiet, leaves, any_of}
 use Rattle.ps_operator.specs.Storing.{item_stores}
+use Rattle.array_ops.specs.Parts.{count_at}
 
 -- a literal array; a packed one is only read
 abbrev pub array_object : Bool → Interval → Object
@@ -70,10 +71,9 @@ right_bracket s = read (above_mark (ops s)) (λ n. gathers s 0 n false)
 abbrev pub packedarray : State → Ask
 packedarray s =
     read (needed 1 (ops s)) (λ _.
-    read (integer_at 0 (ops s)) (λ i.
-    read (natural_of i) (λ n.
+    read (count_at 0 (ops s)) (λ n.
     read (needed (n + 1) (ops s)) (λ _.
-    gathers s 1 n true))))
+    gathers s 1 n true)))
 
 -- ---- the packing mode
 

@@ -11,13 +11,13 @@ use Rattle.ps_objects.specs.declared.object.Object.{Object}
 use Rattle.ps_objects.specs.declared.objects.Interval.{Interval}
 use Rattle.ps_objects.specs.declared.place.Value.TheVariants as value
 use Rattle.ps_kinds.specs.declared.state.State.{State}
-use Rattle.ps_memory.specs.Tree.{Application, done, puts}
-use Rattle.ps_operator.specs.Tree.{Ask, read, look_then, found}
+use Rattle.ps_memory.specs.Tree.{done, puts}
+use Rattle.ps_operator.specs.Tree.{Ask, read}
 use Rattle.ps_operator.specs.Budgets.{storable}
 use Rattle.ps_operator.specs.Looks.{item_place, byte_place, look_item, look_byte}
 use Rattle.ps_operator.specs.Numbers.{place_in}
 use Rattle.ps_operator.specs.Registers.{ops, literal, with_ops, quiet, leaves}
-use Rattle.array_ops.specs.Parts.{part_at, interval_of}
+use Rattle.array_ops.specs.Parts.{part_at}
 use Rattle.array_ops.specs.declared.parts.Part.{Part}
 use Rattle.array_ops.specs.declared.parts.Part.TheVariants as part
 
@@ -55,21 +55,35 @@ size s =
 
 -- ---- get
 
--- looks at the item or the byte at a place of a part; a byte is told as an integer
-abbrev pub member : Part → ℕ → Application Object
-member (part.Items a) at = look_item a at found
-member (part.Bytes a) at = look_byte a at (λ b. found (literal (kind.Integer (pos b))))
+-- the item at a place of an array
+abbrev pub item_told : State → Interval → Ask
+item_told s a =
+    read (integer_at 0 (ops s)) (λ i.
+    read (readable_at 1 (ops s)) (λ _.
+    read (place_in a.len i) (λ at.
+    look_item a at (λ x.
+    leaves s (x ∷ drop 2 (ops s))))))
+
+-- the byte at a place of a string, as an integer
+abbrev pub byte_told : State → Interval → Ask
+byte_told s a =
+    read (integer_at 0 (ops s)) (λ i.
+    read (readable_at 1 (ops s)) (λ _.
+    read (place_in a.len i) (λ at.
+    look_byte a at (λ b.
+    leaves s (literal (kind.Integer (pos b)) ∷ drop 2 (ops s))))))
+
+-- at a place of either
+abbrev pub member_told : State → Part → Ask
+member_told s (part.Items a) = item_told s a
+member_told s (part.Bytes a) = byte_told s a
 
 -- a i get x, s i get b: the item or the byte at a place
 abbrev pub get : State → Ask
 get s =
     read (needed 2 (ops s)) (λ _.
-    read (integer_at 0 (ops s)) (λ i.
     read (part_at 1 (ops s)) (λ p.
-    read (readable_at 1 (ops s)) (λ _.
-    read (place_in (interval_of p).len i) (λ at.
-    look_then (member p at) (λ x.
-    leaves s (x ∷ drop 2 (ops s))))))))
+    member_told s p))
 
 -- ---- put
 
@@ -79,32 +93,33 @@ byte_of (pos n) = if nat_lt n 256 then Ok n else Err RangeCheck
 byte_of (negsuc n) = Err RangeCheck
 
 -- the newest operand goes to a place of an array
-abbrev pub item_put : State → ℤ → Interval → Ask
-item_put s i a =
+abbrev pub item_put : State → Interval → Ask
+item_put s a =
     read (object_at 0 (ops s)) (λ x.
+    read (integer_at 1 (ops s)) (λ i.
     read (writable_at 2 (ops s)) (λ _.
     read (storable a.cell x.kind) (λ _.
     read (place_in a.len i) (λ at.
-    done (puts (item_place a at) (value.Object x) ∷ []) (quiet (with_ops s (drop 3 (ops s))))))))
+    done (puts (item_place a at) (value.Object x) ∷ []) (quiet (with_ops s (drop 3 (ops s)))))))))
 
 -- the newest operand goes to a place of a string
-abbrev pub byte_put : State → ℤ → Interval → Ask
-byte_put s i a =
+abbrev pub byte_put : State → Interval → Ask
+byte_put s a =
     read (integer_at 0 (ops s)) (λ n.
+    read (integer_at 1 (ops s)) (λ i.
     read (writable_at 2 (ops s)) (λ _.
     read (place_in a.len i) (λ at.
     read (byte_of n) (λ b.
-    done (puts (byte_place a at) (value.Byte b) ∷ []) (quiet (with_ops s (drop 3 (ops s))))))))
+    done (puts (byte_place a at) (value.Byte b) ∷ []) (quiet (with_ops s (drop 3 (ops s)))))))))
 
 -- to a place of either
-abbrev pub member_put : State → ℤ → Part → Ask
-member_put s i (part.Items a) = item_put s i a
-member_put s i (part.Bytes a) = byte_put s i a
+abbrev pub member_put : State → Part → Ask
+member_put s (part.Items a) = item_put s a
+member_put s (part.Bytes a) = byte_put s a
 
 -- a i x put, s i b put: an item or a byte at a place, without a look at the old one
 abbrev pub put : State → Ask
 put s =
     read (needed 3 (ops s)) (λ _.
-    read (integer_at 1 (ops s)) (λ i.
     read (part_at 2 (ops s)) (λ p.
-    member_put s i p)))
+    member_put s p))

@@ -2,15 +2,20 @@
 use Rattle.std.specs.Prelude.{ℕ, ◌+◌, Bool, List, Result, Ok, Err}
 use Rattle.ps_names.specs.declared.error_name.ErrorName.{ErrorName}
 use Rattle.ps_names.specs.declared.error_name.ErrorName.TheVariants.{TypeCheck}
-use Rattle.ps_objects.specs.Operands.{typed}
+use Rattle.ps_objects.specs.Operands.{integer_at, typed}
 use Rattle.ps_objects.specs.declared.object.Kind.{Kind}
 use Rattle.ps_objects.specs.declared.object.Kind.TheVariants as kind
 use Rattle.ps_objects.specs.declared.object.Object.{Object}
 use Rattle.ps_objects.specs.declared.objects.Interval.{Interval}
 use Rattle.ps_memory.specs.Memory.{Memory}
+use Rattle.ps_operator.specs.Numbers.{natural_of}
 use Rattle.ps_operator.specs.Standing.{is_array, is_string}
 use Rattle.array_ops.specs.declared.parts.Part.{Part}
 use Rattle.array_ops.specs.declared.parts.Part.TheVariants as part
+
+-- a number that isn't negative, as an operand
+abbrev pub count_at : ℕ → List Object → Result ℕ ErrorName
+count_at depth xs = elim (integer_at depth xs) [ Ok i ↦ natural_of i | Err e ↦ Err e ]
 
 -- the items of an array, or the bytes of a string
 abbrev pub part_of : Kind → Result Part ErrorName
@@ -22,12 +27,12 @@ part_of _ = Err TypeCheck
 abbrev pub part_at : ℕ → List Object → Result Part ErrorName
 part_at = typed part_of
 
--- its interval
+-- the interval of a part
 abbrev pub interval_of : Part → Interval
 interval_of (part.Items a) = a
 interval_of (part.Bytes a) = a
 
--- it stands
+-- a part stands
 abbrev pub is_part : Memory → Part → Bool
 is_part M (part.Items a) = is_array M a
 is_part M (part.Bytes a) = is_string M a

@@ -1,5 +1,5 @@
 -- Arrays that are spread over the operand stack, and filled from it (section 8.2 of the language manual).
-use Rattle.std.specs.Prelude.{ℕ, zero, suc, ◌+◌, List, [], ◌∷◌, drop, take}
+use Rattle.std.specs.Prelude.{ℕ, zero, suc, ◌+◌, List, ◌∷◌, drop, take}
 use Rattle.ps_objects.specs.Operands.{needed, object_at, array_at, readable_at, writable_at}
 use Rattle.ps_objects.specs.declared.object.Object.{Object}
 use Rattle.ps_objects.specs.declared.objects.Interval.{Interval}

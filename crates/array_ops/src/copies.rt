@@ -8,10 +8,10 @@ ghost use Rattle.ps_operator.specs.Registers.{ops};
 ghost use Rattle.ps_operator.specs.Standing.{is_array, is_string};
 ghost use Rattle.array_ops.specs.Intervals as spec;
 
-use crate::intervals::{Move, early_space, move_of, storable_items};
-use crate::parts::{over_of, part_at, piece};
+use crate::intervals::{Move, early_room, move_of, storable_items};
+use crate::parts::{count_at, over_of, part_at, piece};
 use ps_kinds::{ErrorName, Interval, NoMemory, Objects, Operands, Refusal, State};
-use ps_operator::{Mem, bytes_of, natural_of, push_copy, space_in, store_bytes, store_items};
+use ps_operator::{Mem, bytes_of, push_copy, space_in, store_bytes, store_items};
 
 /// Copies all items of an array to the front of another, which is the newest operand and is left.
 fn copy_items<M: Mem>(
@@ -28,9 +28,10 @@ fn copy_items<M: Mem>(
 {
     let operands = &mut state.regs.operands;
     let object = operands.object(0)?;
-    early_space(target, source, 0)?;
+    let room = space_in(target.len, source.len, 0);
+    early_room(target, room)?;
     let items = storable_items(operands.alloc(), target.cell, source, mem)?;
-    let at = space_in(target.len, source.len, 0)?;
+    let at = room?;
     let front = over_of(piece(target, 0, source.len), object)?;
     store_items(mem, target, at, items.as_slice())?;
     operands.shrink(2);
@@ -101,11 +102,11 @@ fn push_copies(operands: &mut Objects, count: usize) -> Result<(), NoMemory>
 }
 
 /// What `copy` does of an integer and operands below it.
-fn copy_operands(state: &mut State, i: i32) -> Result<(), Refusal>
-    ensures { DoesAlone (λ s. spec.copy_operands s i) state.old result state.new }
+fn copy_operands(state: &mut State) -> Result<(), Refusal>
+    ensures { DoesAlone spec.copy_operands state.old result state.new }
 {
     let operands = &mut state.regs.operands;
-    let count = natural_of(i)? as usize;
+    let count = count_at(operands, 0)? as usize;
     operands.need(count + 1)?;
     more_room(operands, count.saturating_sub(1))?;
     operands.shrink(1);
@@ -113,14 +114,22 @@ fn copy_operands(state: &mut State, i: i32) -> Result<(), Refusal>
     Ok(())
 }
 
+fn is_integer_at(operands: &Objects, depth: usize) -> bool
+    ensures { result ≡ spec.is_integer_at depth operands.now }
+{
+    operands.integer(depth).is_ok()
+}
+
+#[tactic(auto, using(crate::proofs::Going::does_as, crate::proofs::Going::operands_go, crate::proofs::Going::part_goes))]
 pub(crate) fn copy<M: Mem>(state: &mut State, mem: &mut M) -> Result<(), Refusal>
     requires { Ready state.old (M.log mem.old).view }
     ensures { Does spec.copy state.old (M.log mem.old) result state.new (M.log mem.new) }
 {
     let operands = &state.regs.operands;
     operands.need(1)?;
-    match operands.integer(0) {
-        Ok(i) => copy_operands(state, i),
-        Err(_) => copy_part(state, mem),
+    if is_integer_at(operands, 0) {
+        copy_operands(state)
+    } else {
+        copy_part(state, mem)
     }
 }

@@ -10,7 +10,7 @@ ghost use Rattle.array_ops.specs.Intervals as spec;
 
 use crate::parts::{Part, interval_of, over_of, part_at, piece};
 use ps_kinds::{
-    Cell, ErrorName, Interval, NoMemory, Object, Operands, Refusal, Sequence, Space, State,
+    Cell, ErrorName, Interval, Object, Objects, Operands, Refusal, Sequence, Space, State,
 };
 use ps_operator::{
     Mem, bytes_of, look_item, natural_of, space_in, storable, store_bytes, store_items,
@@ -84,56 +84,69 @@ pub(crate) fn storable_items<M: Mem>(
     Ok(items)
 }
 
-/// Whether the source fits in the target from a place on, where no item need be looked at to know what else is refused: rangecheck.
-pub(crate) fn early_space(target: Interval, source: Interval, i: i32) -> Result<(), ErrorName>
-    ensures { result ≡ spec.early_space target source i }
+/// Asks early for the room for items, where no item need be looked at to know what else is refused: rangecheck.
+pub(crate) fn early_room(target: Interval, room: Result<u32, ErrorName>) -> Result<(), ErrorName>
+    ensures { result ≡ spec.early_room target room }
 {
     if target.cell.space == Space::Global {
         return Ok(());
     }
-    space_in(target.len, source.len, i)?;
+    room?;
     Ok(())
 }
 
+/// The place that an operand tells, from which on the source fits in the target: typecheck, rangecheck.
+fn room_at(
+    operands: &Objects,
+    depth: usize,
+    target: Interval,
+    source: Interval,
+) -> Result<u32, ErrorName>
+    ensures { result ≡ spec.room_at depth target source operands.now }
+{
+    space_in(target.len, source.len, operands.integer(depth)?)
+}
+
 /// Puts all items of an array at a place of another. All are looked at before the first is stored, so they may be the same.
+#[tactic(auto, using(ps_operator::proofs::Then::answer_then, crate::proofs::Standing::room_within, ps_operator::proofs::StoreSteps::items_take_none))]
 fn put_items<M: Mem>(
     state: &mut State,
     mem: &mut M,
-    i: i32,
     target: Interval,
     source: Interval,
 ) -> Result<(), Refusal>
     requires target { is_array (M.log mem.old).view target ≡ true }
     requires source { is_array (M.log mem.old).view source ≡ true }
     requires there { 3 ≤ length (ops state.old) }
-    ensures { Does (λ s. spec.put_move s i (Move.Items target source)) state.old (M.log mem.old)
+    ensures { Does (λ s. spec.put_move s (Move.Items target source)) state.old (M.log mem.old)
         result state.new (M.log mem.new) }
 {
     let operands = &mut state.regs.operands;
-    early_space(target, source, i)?;
+    let room = room_at(operands, 1, target, source);
+    early_room(target, room)?;
     let items = storable_items(operands.alloc(), target.cell, source, mem)?;
-    let at = space_in(target.len, source.len, i)?;
+    let at = room?;
     store_items(mem, target, at, items.as_slice())?;
     operands.shrink(3);
     Ok(())
 }
 
 /// Puts all bytes of a string at a place of another.
+#[tactic(auto, using(ps_operator::proofs::Then::answer_then, crate::proofs::Standing::room_within, ps_operator::proofs::StoreSteps::bytes_take_none))]
 fn put_bytes<M: Mem>(
     state: &mut State,
     mem: &mut M,
-    i: i32,
     target: Interval,
     source: Interval,
 ) -> Result<(), Refusal>
     requires target { is_string (M.log mem.old).view target ≡ true }
     requires source { is_string (M.log mem.old).view source ≡ true }
     requires there { 3 ≤ length (ops state.old) }
-    ensures { Does (λ s. spec.put_move s i (Move.Bytes target source)) state.old (M.log mem.old)
+    ensures { Does (λ s. spec.put_move s (Move.Bytes target source)) state.old (M.log mem.old)
         result state.new (M.log mem.new) }
 {
     let operands = &mut state.regs.operands;
-    let at = space_in(target.len, source.len, i)?;
+    let at = room_at(operands, 1, target, source)?;
     let bytes = bytes_of(operands.alloc(), source, mem)?;
     store_bytes(mem, target, at, bytes.as_slice())?;
     operands.shrink(3);
@@ -147,13 +160,13 @@ pub(crate) fn putinterval<M: Mem>(state: &mut State, mem: &mut M) -> Result<(), 
     let operands = &state.regs.operands;
     operands.need(3)?;
     let source = part_at(operands, 0)?;
-    let i = operands.integer(1)?;
+    operands.integer(1)?;
     let target = part_at(operands, 2)?;
     let both = move_of(target, source)?;
     operands.readable(0)?;
     operands.writable(2)?;
     match both {
-        Move::Items { target, source } => put_items(state, mem, i, target, source),
-        Move::Bytes { target, source } => put_bytes(state, mem, i, target, source),
+        Move::Items { target, source } => put_items(state, mem, target, source),
+        Move::Bytes { target, source } => put_bytes(state, mem, target, source),
     }
 }

@@ -12,6 +12,7 @@ ghost use Rattle.ps_operator.specs.Standing.{is_array, Stays};
 ghost use Rattle.ps_operator.specs.Storing.{item_stores};
 ghost use Rattle.array_ops.specs.Making as spec;
 
+use crate::parts::count_at;
 use ps_kinds::{
     Access, Cell, ErrorName, Interval, Kind, NoMemory, Object, Objects, Operands, Refusal, Space,
     State,
@@ -185,7 +186,7 @@ pub(crate) fn packedarray<M: Mem>(state: &mut State, mem: &mut M) -> Result<(), 
 {
     let operands = &state.regs.operands;
     operands.need(1)?;
-    let count = natural_of(operands.integer(0)?)? as usize;
+    let count = count_at(operands, 0)? as usize;
     operands.need(count + 1)?;
     gather(state, mem, 1, count, true)
 }

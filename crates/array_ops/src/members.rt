@@ -1,19 +1,18 @@
 //! Single items and bytes, and how many there are (section 8.2 of the language manual).
-#![tactic(auto, using(ps_operator::proofs::Then::answer_then))]
+#![tactic(auto)]
 
-ghost use Rattle.std.specs.Prelude.{◌≡◌, ◌<◌, ◌≤◌, length, true, IfOk, OnOk};
+ghost use Rattle.std.specs.Prelude.{◌≡◌, ◌≤◌, length, true};
 ghost use Rattle.ps_meaning.specs.Ready.{Ready};
 ghost use Rattle.ps_objects.specs.Operands.{typed};
-ghost use Rattle.ps_operator.specs.Owes.{Does, DoesAlone, Finds};
+ghost use Rattle.ps_operator.specs.Owes.{Does, DoesAlone};
 ghost use Rattle.ps_operator.specs.Registers.{ops};
 ghost use Rattle.ps_operator.specs.Standing.{is_array, is_string};
-ghost use Rattle.array_ops.specs.Parts.{interval_of, is_part};
 ghost use Rattle.array_ops.specs.Members as spec;
 
-use crate::parts::{Part, interval_of, part_at};
-use ps_kinds::{ErrorName, Interval, Kind, NoMemory, Object, Objects, Operands, Refusal, State};
+use crate::parts::{Part, part_at};
+use ps_kinds::{ErrorName, Interval, Kind, Object, Objects, Operands, Refusal, State};
 use ps_operator::{
-    Mem, literal, look_byte, look_item, place_in, push_result, storable, store_byte, store_item,
+    Mem, look_byte, look_item, place_in, push_result, storable, store_byte, store_item,
 };
 
 fn size_of(kind: &Kind) -> Result<usize, ErrorName>
@@ -75,36 +74,52 @@ pub(crate) fn size(state: &mut State) -> Result<(), Refusal>
     Ok(())
 }
 
-/// A look at an item, or at a byte, which is told as an integer.
-fn look_member<M: Mem>(mem: &mut M, part: Part, at: u32) -> Result<Object, NoMemory>
-    requires part { is_part (M.log mem.old).view part ≡ true }
-    requires at { at < (interval_of part).len }
-    ensures { IfOk result (λ x. Finds (spec.member part at) (M.log mem.old) x (M.log mem.new)) }
+/// Leaves the item at a place of an array.
+#[tactic(auto, using(ps_operator::proofs::Fitting::place_below))]
+fn get_item<M: Mem>(state: &mut State, mem: &mut M, array: Interval) -> Result<(), Refusal>
+    requires array { is_array (M.log mem.old).view array ≡ true }
+    requires there { 2 ≤ length (ops state.old) }
+    ensures { Does (λ s. spec.item_told s array) state.old (M.log mem.old)
+        result state.new (M.log mem.new) }
 {
-    match part {
-        Part::Items(array) => look_item(mem, array, at),
-        Part::Bytes(string) => {
-            let byte = look_byte(mem, string, at)?;
-            Ok(literal(Kind::Integer(byte as i32)))
-        }
-    }
+    let operands = &mut state.regs.operands;
+    let i = operands.integer(0)?;
+    operands.readable(1)?;
+    let at = place_in(array.len, i)?;
+    let item = look_item(mem, array, at)?;
+    operands.shrink(2);
+    operands.push(item)?;
+    Ok(())
 }
 
-#[tactic(auto, using(ps_operator::proofs::Then::answer_then, ps_operator::proofs::Fitting::place_below, crate::proofs::Standing::part_stands))]
+/// Leaves the byte at a place of a string, as an integer.
+#[tactic(auto, using(ps_operator::proofs::Fitting::place_below))]
+fn get_byte<M: Mem>(state: &mut State, mem: &mut M, string: Interval) -> Result<(), Refusal>
+    requires string { is_string (M.log mem.old).view string ≡ true }
+    requires there { 2 ≤ length (ops state.old) }
+    ensures { Does (λ s. spec.byte_told s string) state.old (M.log mem.old)
+        result state.new (M.log mem.new) }
+{
+    let operands = &mut state.regs.operands;
+    let i = operands.integer(0)?;
+    operands.readable(1)?;
+    let at = place_in(string.len, i)?;
+    let byte = look_byte(mem, string, at)?;
+    push_result(operands, 2, Kind::Integer(byte as i32))?;
+    Ok(())
+}
+
+#[tactic(auto, using(crate::proofs::Standing::items_stand, crate::proofs::Standing::bytes_stand))]
 pub(crate) fn get<M: Mem>(state: &mut State, mem: &mut M) -> Result<(), Refusal>
     requires { Ready state.old (M.log mem.old).view }
     ensures { Does spec.get state.old (M.log mem.old) result state.new (M.log mem.new) }
 {
-    let operands = &mut state.regs.operands;
+    let operands = &state.regs.operands;
     operands.need(2)?;
-    let i = operands.integer(0)?;
-    let part = part_at(operands, 1)?;
-    operands.readable(1)?;
-    let at = place_in(interval_of(part).len, i)?;
-    let member = look_member(mem, part, at)?;
-    operands.shrink(2);
-    operands.push(member)?;
-    Ok(())
+    match part_at(operands, 1)? {
+        Part::Items(array) => get_item(state, mem, array),
+        Part::Bytes(string) => get_byte(state, mem, string),
+    }
 }
 
 /// A number that is a byte: rangecheck.
@@ -120,14 +135,15 @@ fn byte_of(n: i32) -> Result<u8, ErrorName>
 
 /// Puts the newest operand at a place of an array.
 #[tactic(auto, using(ps_operator::proofs::Fitting::place_below))]
-fn put_item<M: Mem>(state: &mut State, mem: &mut M, i: i32, array: Interval) -> Result<(), Refusal>
+fn put_item<M: Mem>(state: &mut State, mem: &mut M, array: Interval) -> Result<(), Refusal>
     requires array { is_array (M.log mem.old).view array ≡ true }
     requires there { 3 ≤ length (ops state.old) }
-    ensures { Does (λ s. spec.item_put s i array) state.old (M.log mem.old)
+    ensures { Does (λ s. spec.item_put s array) state.old (M.log mem.old)
         result state.new (M.log mem.new) }
 {
     let operands = &mut state.regs.operands;
     let object = operands.object(0)?;
+    let i = operands.integer(1)?;
     operands.writable(2)?;
     storable(array.cell, &object.kind)?;
     let at = place_in(array.len, i)?;
@@ -138,14 +154,15 @@ fn put_item<M: Mem>(state: &mut State, mem: &mut M, i: i32, array: Interval) -> 
 
 /// Puts the newest operand at a place of a string.
 #[tactic(auto, using(ps_operator::proofs::Fitting::place_below))]
-fn put_byte<M: Mem>(state: &mut State, mem: &mut M, i: i32, string: Interval) -> Result<(), Refusal>
+fn put_byte<M: Mem>(state: &mut State, mem: &mut M, string: Interval) -> Result<(), Refusal>
     requires string { is_string (M.log mem.old).view string ≡ true }
     requires there { 3 ≤ length (ops state.old) }
-    ensures { Does (λ s. spec.byte_put s i string) state.old (M.log mem.old)
+    ensures { Does (λ s. spec.byte_put s string) state.old (M.log mem.old)
         result state.new (M.log mem.new) }
 {
     let operands = &mut state.regs.operands;
     let n = operands.integer(0)?;
+    let i = operands.integer(1)?;
     operands.writable(2)?;
     let at = place_in(string.len, i)?;
     let byte = byte_of(n)?;
@@ -154,16 +171,15 @@ fn put_byte<M: Mem>(state: &mut State, mem: &mut M, i: i32, string: Interval) ->
     Ok(())
 }
 
-#[tactic(auto, using(crate::proofs::Standing::part_stands))]
+#[tactic(auto, using(crate::proofs::Standing::items_stand, crate::proofs::Standing::bytes_stand))]
 pub(crate) fn put<M: Mem>(state: &mut State, mem: &mut M) -> Result<(), Refusal>
     requires { Ready state.old (M.log mem.old).view }
     ensures { Does spec.put state.old (M.log mem.old) result state.new (M.log mem.new) }
 {
     let operands = &state.regs.operands;
     operands.need(3)?;
-    let i = operands.integer(1)?;
     match part_at(operands, 2)? {
-        Part::Items(array) => put_item(state, mem, i, array),
-        Part::Bytes(string) => put_byte(state, mem, i, string),
+        Part::Items(array) => put_item(state, mem, array),
+        Part::Bytes(string) => put_byte(state, mem, string),
     }
 }

@@ -3,12 +3,20 @@ ghost use Rattle.std.specs.Prelude.{◌≡◌, ◌+◌, ◌^◌, ◌<◌, ◌≤
 ghost use Rattle.array_ops.specs.Parts as spec;
 
 use ps_kinds::{ErrorName, Interval, Kind, NoMemory, Object, Objects, Operands};
+use ps_operator::natural_of;
 
 /// A part of an array or of a string.
 #[derive(Clone, Copy)]
 pub(crate) enum Part {
     Items(Interval),
     Bytes(Interval),
+}
+
+/// The number that is `depth` below the newest operand and isn't negative: typecheck, rangecheck.
+pub(crate) fn count_at(operands: &Objects, depth: usize) -> Result<u32, ErrorName>
+    ensures { result ≡ spec.count_at depth operands.now }
+{
+    natural_of(operands.integer(depth)?)
 }
 
 fn part_of(kind: &Kind) -> Result<Part, ErrorName>

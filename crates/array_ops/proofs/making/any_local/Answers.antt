@@ -1,4 +1,4 @@
-use Rattle.std.proofs.Common.{◌≡◌, ◌<◌, sym, ◌∙◌, arith}
+use Rattle.std.proofs.Common.{◌<◌, sym, ◌∙◌, arith}
 use Rattle.array_ops.specs.Making.{names_local}
 use Rattle.array_ops.proofs.Gathering.{run_hit, run_miss}
 use Rattle.array_ops.proofs.making.any_local.Goals as goal
