@@ -13,7 +13,7 @@ use Rattle.ps_operator.specs.Tree.{Ask, read}
 use Rattle.array_ops.specs.Making.{gathers, right_bracket, packedarray}
 use Rattle.array_ops.specs.Members.{member_told, get, member_put, put}
 use Rattle.array_ops.specs.Parts.{count_at, part_at}
-use Rattle.array_ops.specs.Intervals.{move_of, put_move, putinterval, copy_to, copy_part, copy_operands, is_integer_at, copy}
+use Rattle.array_ops.specs.Intervals.{move_of, put_move, putinterval, copy_part, copy_operands, is_integer_at, copy}
 use Rattle.array_ops.specs.declared.intervals.Move.{Move}
 use Rattle.array_ops.specs.declared.parts.Part.{Part}
 
@@ -54,16 +54,6 @@ interval_goes s i source target m a b c d e g h =
     ∙ read_ok (move_of target source) m (λ m. read (readable_at 0 (ops s)) (λ _. read (writable_at 2 (ops s)) (λ _. put_move s m))) e
     ∙ read_ok (readable_at 0 (ops s)) tt (λ _. read (writable_at 2 (ops s)) (λ _. put_move s m)) g
     ∙ read_ok (writable_at 2 (ops s)) tt (λ _. put_move s m) h
-
-pub copy_goes : (s : State) (target source : Part) (m : Move) → needed 2 (ops s) ≡ Ok tt → part_at 0 (ops s) ≡ Ok target → part_at 1 (ops s) ≡ Ok source → move_of target source ≡ Ok m
-    → writable_at 0 (ops s) ≡ Ok tt → readable_at 1 (ops s) ≡ Ok tt → copy_part s ≡ copy_to s m
-copy_goes s target source m a b c d e g =
-    read_ok (needed 2 (ops s)) tt (λ _. read (part_at 0 (ops s)) (λ target. read (part_at 1 (ops s)) (λ source. read (move_of target source) (λ m. read (writable_at 0 (ops s)) (λ _. read (readable_at 1 (ops s)) (λ _. copy_to s m)))))) a
-    ∙ read_ok (part_at 0 (ops s)) target (λ target. read (part_at 1 (ops s)) (λ source. read (move_of target source) (λ m. read (writable_at 0 (ops s)) (λ _. read (readable_at 1 (ops s)) (λ _. copy_to s m))))) b
-    ∙ read_ok (part_at 1 (ops s)) source (λ source. read (move_of target source) (λ m. read (writable_at 0 (ops s)) (λ _. read (readable_at 1 (ops s)) (λ _. copy_to s m)))) c
-    ∙ read_ok (move_of target source) m (λ m. read (writable_at 0 (ops s)) (λ _. read (readable_at 1 (ops s)) (λ _. copy_to s m))) d
-    ∙ read_ok (writable_at 0 (ops s)) tt (λ _. read (readable_at 1 (ops s)) (λ _. copy_to s m)) e
-    ∙ read_ok (readable_at 1 (ops s)) tt (λ _. copy_to s m) g
 
 pub operands_go : (s : State) → needed 1 (ops s) ≡ Ok tt → is_integer_at 0 (ops s) ≡ true → copy s ≡ copy_operands s
 operands_go s p q = read_ok (needed 1 (ops s)) tt (λ _. cond (is_integer_at 0 (ops s)) (copy_operands s) (copy_part s)) p ∙ ap (λ b. cond b (copy_operands s) (copy_part s)) q

@@ -1,7 +1,7 @@
 //! Parts that are cut out, and items and bytes that move from one part to another (section 8.2 of the language manual).
 #![tactic(auto, using(ps_operator::proofs::Then::answer_then, ps_operator::proofs::Storing::space_within, ps_operator::proofs::StoreSteps::items_take_none, ps_operator::proofs::StoreSteps::bytes_take_none, crate::proofs::Standing::part_stands, crate::proofs::Standing::part_ends))]
 
-ghost use Rattle.std.specs.Prelude.{◌≡◌, ◌≤◌, length, true, [], OnOk, IfOk};
+ghost use Rattle.std.specs.Prelude.{◌≡◌, ◌≤◌, length, true, OnOk, IfOk};
 ghost use Rattle.ps_meaning.specs.Ready.{Ready};
 ghost use Rattle.ps_operator.specs.Owes.{Does, Yields};
 ghost use Rattle.ps_operator.specs.Registers.{ops};

@@ -1,14 +1,14 @@
 //! New arrays, and the packing mode (section 8.2 of the language manual).
 #![tactic(auto, using(ps_operator::proofs::Naming::next_free))]
 
-ghost use Rattle.std.specs.Prelude.{◌≡◌, ◌+◌, ◌^◌, ◌<◌, ◌≤◌, ◌∷◌, drop, length, take, slice_get, Some, true, Ok, IfOk, OnOk};
+ghost use Rattle.std.specs.Prelude.{◌≡◌, ◌+◌, ◌<◌, ◌≤◌, drop, length, take, slice_get, Some, true, Ok, IfOk, OnOk};
 ghost use Rattle.ps_meaning.specs.Answer.{changed_in};
 ghost use Rattle.ps_meaning.specs.Ready.{Ready};
 ghost use Rattle.ps_objects.specs.Object.{whole_of};
 ghost use Rattle.ps_operator.specs.Owes.{Does, DoesAlone};
 ghost use Rattle.ps_operator.specs.Budgets.{is_local};
 ghost use Rattle.ps_operator.specs.Registers.{any_of, ops};
-ghost use Rattle.ps_operator.specs.Standing.{is_array, Stays};
+ghost use Rattle.ps_operator.specs.Standing.{is_array};
 ghost use Rattle.ps_operator.specs.Storing.{item_stores};
 ghost use Rattle.array_ops.specs.Making as spec;
 

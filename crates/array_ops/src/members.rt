@@ -1,6 +1,4 @@
 //! Single items and bytes, and how many there are (section 8.2 of the language manual).
-#![tactic(auto)]
-
 ghost use Rattle.std.specs.Prelude.{◌≡◌, ◌≤◌, length, true};
 ghost use Rattle.ps_meaning.specs.Ready.{Ready};
 ghost use Rattle.ps_objects.specs.Operands.{typed};
