@@ -53,14 +53,28 @@ container_keeps n text s W f =
 families_keep : AllByRecursion IsKept families
 families_keep = (
   λ n text. stack_arith.run_keeps n text,
-  (λ n text. text_ops.run_keeps n text,
-  (λ n text. container_keeps n text,
-  (λ n text. array_ops.run_keeps n text,
-  (λ n text. object_ops.run_keeps n text,
-  (λ n text. control_ops.run_keeps n text,
-  (λ n text. file_ops.run_keeps n text,
-  (λ n text. save_restore.run_keeps n text,
-  (λ n text. error_ops.run_keeps n text, tt)))))))),
+  (
+    λ n text. text_ops.run_keeps n text,
+    (
+      λ n text. container_keeps n text,
+      (
+        λ n text. array_ops.run_keeps n text,
+        (
+          λ n text. object_ops.run_keeps n text,
+          (
+            λ n text. control_ops.run_keeps n text,
+            (
+              λ n text. file_ops.run_keeps n text,
+              (
+                λ n text. save_restore.run_keeps n text,
+                (λ n text. error_ops.run_keeps n text, tt),
+              ),
+            ),
+          ),
+        ),
+      ),
+    ),
+  ),
 )
 
 -- ---- frames
