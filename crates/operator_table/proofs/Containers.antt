@@ -26,7 +26,7 @@ module _ (n : ℕ) (s : State) (log : Log) (r : Result Act NoMemory) (t : State)
       subst (λ a. Gives (answer a s log) r t there) (sym (ap (λ b. cond b (dicts.run n s) (arrays.run n s)) e)) p
 
 -- what is refused for its container is one of four
-shared : (l c g p x y z : Bool) → cond (l || c) x (cond g y (cond p z true)) ≡ false → (l || (g || (p || c))) ≡ true
+shared : (l c g p x y z : Bool) → cond (l || c) x (cond g y (cond p z true)) ≡ false → (l || g || p || c) ≡ true
 shared true c g p x y z h = refl
 shared false true true p x y z h = refl
 shared false true false true x y z h = refl
