@@ -1,7 +1,1 @@
-pub mod CellLemmas
-pub mod Items
-pub mod Values
-pub mod Taken
-pub mod Names
-pub mod Steps
 pub mod Ending

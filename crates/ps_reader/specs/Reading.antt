@@ -7,24 +7,15 @@ use Rattle.ps_meaning.specs.Ready.{Fits}
 use Rattle.ps_meaning.specs.Registers.{world_of}
 use Rattle.ps_meaning.specs.Sound.{SoundMemory}
 use Rattle.ps_execution.specs.Execution.{Read, reads}
-use Rattle.ps_execution.specs.Gather as gathering
 use Rattle.ps_execution.specs.Gather.{gather}
 use Rattle.ps_execution.specs.Lawful.{IsPaid}
 use Rattle.ps_execution.specs.Reached.{reached, came}
-use Rattle.ps_reader.specs.declared.spelt.Spelt.{Spelt}
-use Rattle.ps_reader.specs.declared.spelt.Spelt.TheVariants as spelt
 
 -- a state that fits a sound memory, in which so many names have no turn and no unit of their own
 pub record IsReady (n : ℕ) (text : List ℕ) (s : State) (M : Memory) : Type 0 where
   pub fits : Fits text (world_of s.section M) s
   pub memory : SoundMemory (world_of s.section M) M
   pub paid : IsPaid n s
-
--- what a text spells, in the words of the meaning
-abbrev pub spelt_of : Spelt → gathering.Spelt
-spelt_of (spelt.Object x) = gathering.object x
-spelt_of (spelt.Bad e) = gathering.bad e
-spelt_of spelt.Nothing = gathering.nothing
 
 -- From a state and a log, the run of the reading at a place of these bytes comes to this object, place and state, and to this log.
 abbrev pub Reads : List ℕ → ℕ → State → Log → Read → Log → Type 0

@@ -26,8 +26,9 @@ use Rattle.ps_execution.proofs.Lawful.{whole_on}
 use Rattle.ps_execution.proofs.Loop.{world_is}
 use Rattle.ps_execution.proofs.Reached.{reached_bind, reached_law}
 use Rattle.ps_steps.specs.Operators.{FitsHere}
-use Rattle.ps_reader.specs.Reading.{IsReady, spelt_of, Reads}
-use Rattle.ps_reader.specs.declared.spelt.Spelt.{Spelt}
+use Rattle.ps_gather.specs.Ended.{spelt_of}
+use Rattle.ps_reader.specs.Reading.{IsReady, Reads}
+use Rattle.ps_gather.specs.declared.spelt.Spelt.{Spelt}
 use Rattle.ps_steps.specs.Texts.{string_move, section_move}
 
 -- what a lawful run on a sound memory comes to

@@ -4,7 +4,8 @@ ghost use Rattle.ps_kinds.specs.declared.frame.Frame.TheVariants as frame;
 ghost use Rattle.ps_meaning.specs.Start.{literal};
 ghost use Rattle.ps_execution.specs.Execution.{on};
 ghost use Rattle.ps_steps.specs.Next.{program, Makes};
-ghost use Rattle.ps_reader.specs.Reading.{IsReady, spelt_of, Reads};
+ghost use Rattle.ps_gather.specs.Ended.{spelt_of};
+ghost use Rattle.ps_reader.specs.Reading.{IsReady, Reads};
 ghost use Rattle.ps_steps.specs.Texts.{string_move, section_move};
 
 use crate::met::Met;

@@ -6,8 +6,8 @@ use Rattle.ps_execution.specs.Execution.{Read, on}
 use Rattle.ps_execution.specs.Machine.{raised, ended}
 use Rattle.ps_execution.specs.Reached.{came}
 use Rattle.ps_steps.specs.Next.{program, Comes}
-use Rattle.ps_reader.specs.Reading.{spelt_of}
-use Rattle.ps_reader.specs.declared.spelt.Spelt.TheVariants as spelt
+use Rattle.ps_gather.specs.Ended.{spelt_of}
+use Rattle.ps_gather.specs.declared.spelt.Spelt.TheVariants as spelt
 use Rattle.ps_steps.proofs.Texts.{as_spelt, section_came, placed_ready, placed_fits}
 use Rattle.ps_steps.proofs.reading.section_step.Goals as goal
 

@@ -6,8 +6,9 @@ use Rattle.ps_execution.specs.Machine.{move_turn}
 use Rattle.ps_execution.specs.Objects.{executes}
 use Rattle.ps_execution.specs.Reached.{reached, came}
 use Rattle.ps_steps.specs.Next.{program, Comes}
-use Rattle.ps_reader.specs.Reading.{IsReady, spelt_of}
-use Rattle.ps_reader.specs.declared.spelt.Spelt.TheVariants as spelt
+use Rattle.ps_gather.specs.Ended.{spelt_of}
+use Rattle.ps_reader.specs.Reading.{IsReady}
+use Rattle.ps_gather.specs.declared.spelt.Spelt.TheVariants as spelt
 use Rattle.ps_steps.proofs.Texts.{as_spelt, string_came, again_ready, again_fits}
 use Rattle.ps_steps.proofs.reading.string_step.Goals as goal
 
