@@ -1,0 +1,1 @@
+//! Paths are built, told and walked over.
