@@ -19,7 +19,7 @@ use Rattle.ps_operator.proofs.Lawful.{read_keeps, leaves_keeps, begins_keeps}
 use Rattle.ps_operator.proofs.Running.{◌▹◌, all_lawful}
 use Rattle.real_operands.specs.Points.{point_at, placed, moved}
 use Rattle.real_operands.specs.Reals.{real_at}
-use Rattle.path_build.specs.declared.arcs.Arc.{Arc}
+use Rattle.path_build.specs.declared.arcs.Sweep.{Sweep}
 use Rattle.path_build.specs.declared.arcs.Turn.{Turn}
 use Rattle.path_build.specs.declared.arcs.Turn.TheVariants.{Up, Down}
 use Rattle.path_build.specs.Paths.{point_of, begun, point_room, move_room, with_segment, moved_to, closed}
@@ -47,7 +47,7 @@ module _ (text : List ℕ) (s : State) (W : World) (f : Fits text W s) where
         size = r.size;
       })
 
-  arc_keeps : (c : Arc) → Keeps text 4 s.frames (draws_arc s c) s W
+  arc_keeps : (c : Sweep) → Keeps text 4 s.frames (draws_arc s c) s W
   arc_keeps c =
       read_keeps (arc_start (ctm s) c) (λ p _.
       read_keeps (pieces_from (ctm s) c 0 c.pieces []) (λ curves _.

@@ -3,11 +3,11 @@ use Rattle.std.proofs.Common.{◌≡◌, ℕ, zero, suc, ◌+◌, ◌-◌, ◌<�
 use Rattle.ps_names.specs.declared.error_name.ErrorName.{ErrorName}
 use Rattle.ps_shapes.specs.declared.numbers.Matrix.{Matrix}
 use Rattle.ps_shapes.specs.declared.path.Segment.{Segment}
-use Rattle.path_build.specs.declared.arcs.Arc.{Arc}
+use Rattle.path_build.specs.declared.arcs.Sweep.{Sweep}
 use Rattle.path_build.specs.Arcs.{piece, pieces_from}
 use Rattle.path_build.specs.Points.{going_on}
 
-module _ (m : Matrix) (c : Arc) (n all : ℕ) (made : List Segment) (l : n < all) where
+module _ (m : Matrix) (c : Sweep) (n all : ℕ) (made : List Segment) (l : n < all) where
   next : pieces_from m c n (all - n) made ≡ going_on (piece m c n) (λ curve. pieces_from m c (n + 1) (all - (n + 1)) (made ++ curve ∷ []))
   next = ap (λ k. pieces_from m c n k made) (one_more n all l)
     where
@@ -20,5 +20,5 @@ module _ (m : Matrix) (c : Arc) (n all : ℕ) (made : List Segment) (l : n < all
   pub piece_made : (curve : Segment) → piece m c n ≡ Ok curve → pieces_from m c n (all - n) made ≡ pieces_from m c (n + 1) (all - (n + 1)) (made ++ curve ∷ [])
   piece_made curve e = gives (Ok curve) e
 
-  pub piece_refused : (x : ErrorName) → piece m c n ≡ Err x → pieces_from m c n (all - n) made ≡ Err x
-  piece_refused x e = gives (Err x) e
+  pub piece_refused : (whole : Result (List Segment) ErrorName) (r : Result Segment ErrorName) (x : ErrorName) → pieces_from m c n (all - n) made ≡ whole → r ≡ piece m c n → r ≡ Err x → whole ≡ Err x
+  piece_refused whole r x h p e = sym h ∙ gives (Err x) (sym p ∙ e)

@@ -1,5 +1,5 @@
 -- Arcs of circles, as curves (section 8.2 of the language manual). How an arc is cut and where its control points lie is the project's own rule.
-use Rattle.std.specs.Prelude.{ℕ, zero, suc, ◌+◌, ◌-◌, ◌*◌, ◌/◌, ℤ, pos, neg_ℤ, ◌-ℤ◌, ◌*ℤ◌, int_le, nat_lt, if◌then◌else◌, unsigned_abs, List, [], ◌∷◌, ◌++◌, Result, Ok, Err, ⊤}
+use Rattle.std.specs.Prelude.{◌≡◌, ℕ, zero, suc, ◌+◌, ◌-◌, ◌*◌, ◌/◌, ℤ, pos, neg_ℤ, ◌-ℤ◌, ◌*ℤ◌, int_le, nat_lt, if◌then◌else◌, unsigned_abs, List, [], ◌∷◌, ◌++◌, Result, Ok, Err, ⊤}
 use Rattle.std.specs.Int.{int_rem_euclid, int_div_euclid}
 use Rattle.ps_names.specs.declared.error_name.ErrorName.{ErrorName}
 use Rattle.ps_names.specs.declared.error_name.ErrorName.TheVariants.{LimitCheck}
@@ -19,7 +19,7 @@ use Rattle.ps_operator.specs.Registers.{ops}
 use Rattle.ps_operator.specs.Tree.{Ask, read}
 use Rattle.real_operands.specs.Points.{point_at, placed}
 use Rattle.real_operands.specs.Reals.{real_at, defined}
-use Rattle.path_build.specs.declared.arcs.Arc.{Arc}
+use Rattle.path_build.specs.declared.arcs.Sweep.{Sweep}
 use Rattle.path_build.specs.declared.arcs.Turn.{Turn}
 use Rattle.path_build.specs.declared.arcs.Turn.TheVariants.{Up, Down}
 use Rattle.path_build.specs.Paths.{point_room, with_segment}
@@ -39,9 +39,13 @@ abbrev pub way_of : Turn → ℤ → ℤ → ℤ
 way_of Up from to = raised from to
 way_of Down from to = neg_ℤ (raised to from)
 
+-- ten turns
+abbrev pub farthest : ℕ
+farthest = 60397977600
+
 -- at most ten turns
 abbrev pub turn_right : ℤ → Result ℤ ErrorName
-turn_right way = if nat_lt (10 * full_turn) (unsigned_abs way) then Err LimitCheck else Ok way
+turn_right way = if nat_lt farthest (unsigned_abs way) then Err LimitCheck else Ok way
 
 -- the least number of pieces of at most a quarter turn
 abbrev pub pieces_of : ℤ → ℕ
@@ -65,12 +69,16 @@ cosine angle = record { count = cosine_of angle.count }
 abbrev pub against_sine : Real → Real
 against_sine angle = record { count = neg_ℤ (sine_of angle.count) }
 
--- the angle where piece n begins, and the one before it ends: so many of all pieces on, rounded down
-abbrev pub angle_at : Arc → ℕ → Result Real Undefined
-angle_at c n = sum_of c.first (record { count = int_div_euclid (c.way *ℤ pos n) (pos c.pieces) })
+-- how far on piece n begins: so many of all pieces, rounded down
+abbrev pub turned : Sweep → ℕ → Real
+turned c n = record { count = int_div_euclid (c.way *ℤ pos n) (pos c.pieces) }
+
+-- the angle where piece n begins, and the one before it ends
+abbrev pub angle_at : Sweep → ℕ → Result Real Undefined
+angle_at c n = sum_of c.first (turned c n)
 
 -- the point at an angle
-abbrev pub rim : Arc → Real → Result (Real × Real) Undefined
+abbrev pub rim : Sweep → Real → Result (Real × Real) Undefined
 rim c angle =
     and_then (product_of c.radius (cosine angle)) (λ right.
     and_then (sum_of c.x right) (λ x.
@@ -103,7 +111,7 @@ behind p far angle =
     and_then (difference_of p.1 up) (λ y. Ok (x, y)))))
 
 -- the two control points and the end of the piece between two angles
-abbrev pub bow : Arc → Real → Real → Result ((Real × Real) × (Real × Real) × (Real × Real)) Undefined
+abbrev pub bow : Sweep → Real → Real → Result ((Real × Real) × (Real × Real) × (Real × Real)) Undefined
 bow c from to =
     and_then (rim c from) (λ first.
     and_then (rim c to) (λ last.
@@ -112,17 +120,17 @@ bow c from to =
     and_then (behind last far to) (λ b. Ok (a, b, last))))))
 
 -- those of piece n
-abbrev pub bow_at : Arc → ℕ → Result ((Real × Real) × (Real × Real) × (Real × Real)) Undefined
+abbrev pub bow_at : Sweep → ℕ → Result ((Real × Real) × (Real × Real) × (Real × Real)) Undefined
 bow_at c n = and_then (angle_at c n) (λ from. and_then (angle_at c (n + 1)) (λ to. bow c from to))
 
 -- ---- its segments
 
 -- piece n as a curve
-abbrev pub piece : Matrix → Arc → ℕ → Result Segment ErrorName
+abbrev pub piece : Matrix → Sweep → ℕ → Result Segment ErrorName
 piece m c n = going_on (defined (bow_at c n)) (λ b. curve_of m b.0 b.1 b.2)
 
 -- piece n and those behind it, so many in all, after those that were made
-abbrev pub pieces_from : Matrix → Arc → ℕ → ℕ → List Segment → Result (List Segment) ErrorName
+abbrev pub pieces_from : Matrix → Sweep → ℕ → ℕ → List Segment → Result (List Segment) ErrorName
 pieces_from m c n zero made = Ok made
 pieces_from m c n (suc left) made = going_on (piece m c n) (λ curve. pieces_from m c (n + 1) left (made ++ curve ∷ []))
 
@@ -137,11 +145,11 @@ leading [] p = Move p
 leading (segment ∷ path) p = Line p
 
 -- where an arc begins
-abbrev pub arc_start : Matrix → Arc → Result DevicePoint ErrorName
+abbrev pub arc_start : Matrix → Sweep → Result DevicePoint ErrorName
 arc_start m c = going_on (defined (rim c c.first)) (λ xy. placed m xy.0 xy.1)
 
 -- the arc is drawn: where it begins, then its pieces, then room for their points
-abbrev pub draws_arc : State → Arc → Ask
+abbrev pub draws_arc : State → Sweep → Ask
 draws_arc s c =
     read (arc_start (ctm s) c) (λ p.
     read (pieces_from (ctm s) c 0 c.pieces []) (λ curves.
@@ -149,7 +157,7 @@ draws_arc s c =
     draws s 5 (with_segment (path_of s) (leading (path_of s) p) ++ curves))))
 
 -- the arc round a point, from an angle so far
-abbrev pub arc_of : Real × Real → Real → Real → ℤ → Arc
+abbrev pub arc_of : Real × Real → Real → Real → ℤ → Sweep
 arc_of centre radius first way = record { x = centre.0; y = centre.1; radius = radius; first = first; way = way; pieces = pieces_of way }
 
 -- an arc that turns up or down

@@ -14,13 +14,22 @@ use Rattle.path_build.specs.declared.paths.TheConstants.{POINT_LIMIT}
 abbrev pub newest_of : List Segment → Option Segment
 newest_of path = slice_get path (length path - 1)
 
+-- where a segment begins a subpath
+abbrev pub begins : Segment → Option DevicePoint
+begins (Move p) = Some p
+begins (Line p) = None
+begins (Curve p q r) = None
+begins Close = None
+
+-- the one point, or the other where there is none
+abbrev pub point_or : Option DevicePoint → Option DevicePoint → Option DevicePoint
+point_or None other = other
+point_or (Some p) other = Some p
+
 -- where the subpath began, of segments the newest first
 abbrev pub start_behind : List Segment → Option DevicePoint
 start_behind [] = None
-start_behind (Move p ∷ older) = Some p
-start_behind (Line p ∷ older) = start_behind older
-start_behind (Curve p q r ∷ older) = start_behind older
-start_behind (Close ∷ older) = start_behind older
+start_behind (segment ∷ older) = point_or (begins segment) (start_behind older)
 
 -- where a path ends, by its newest segment; a Close ends where its subpath began
 abbrev pub end_of : Option Segment → List Segment → Option DevicePoint

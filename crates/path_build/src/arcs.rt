@@ -1,13 +1,13 @@
 //! Arcs of circles, as curves (section 8.2 of the language manual).
-ghost use Rattle.std.specs.Prelude.{◌≡◌, ◌≤◌, ◌<◌, ◌*◌, [], ◌∷◌, ◌++◌, unsigned_abs, Ok, IfOk, MatchResult, OnOk};
-ghost use Rattle.ps_fixed.specs.Sines.{full_turn};
+ghost use Rattle.std.specs.Prelude.{◌≡◌, ◌≤◌, ◌<◌, ◌*◌, ◌^◌, ◌*ℤ◌, pos, [], ◌∷◌, ◌++◌, unsigned_abs, Ok, IfOk, MatchResult, OnOk};
+ghost use Rattle.std.specs.Int.{int_div_euclid};
 ghost use Rattle.ps_operator.specs.Owes.{DoesAlone};
 ghost use Rattle.path_build.specs.Arcs as spec;
 ghost use Rattle.path_build.specs.Paths.{with_segment};
 
 use crate::paths::point_room;
 use crate::points::curve_of;
-use ps_fixed::{Undefined, add, cos, div, mul, real_of, sin, sub};
+use ps_fixed::{Undefined, add, cos, div, mul, sin, sub};
 use ps_kinds::{
     DevicePoint, ErrorName, Matrix, NoMemory, Operands, Path, Real, Refusal, Segment, State,
 };
@@ -29,7 +29,7 @@ pub(crate) enum Turn {
 
 /// An arc of a circle in user space.
 #[derive(Clone, Copy)]
-pub(crate) struct Arc {
+pub(crate) struct Sweep {
     pub x: Real,
     pub y: Real,
     pub radius: Real,
@@ -69,7 +69,7 @@ fn way_of(turn: Turn, from: i64, to: i64) -> i128
 /// At most ten turns: limitcheck.
 fn turn_right(way: i128) -> Result<i64, ErrorName>
     ensures value { result ≡ spec.turn_right way }
-    ensures bound { IfOk result (λ right. unsigned_abs right ≤ 10 * full_turn) }
+    ensures bound { IfOk result (λ right. unsigned_abs right ≤ spec.farthest) }
 {
     if way.unsigned_abs() > 10 * FULL_TURN as u128 {
         Err(ErrorName::LimitCheck)
@@ -80,7 +80,7 @@ fn turn_right(way: i128) -> Result<i64, ErrorName>
 
 /// The least number of pieces of at most 90 degrees.
 fn pieces_of(way: i64) -> u64
-    requires { unsigned_abs way ≤ 10 * full_turn }
+    requires { unsigned_abs way ≤ spec.farthest }
     ensures value { result ≡ spec.pieces_of way }
     ensures few { result ≤ 40 }
 {
@@ -105,19 +105,49 @@ fn against_sine(angle: Real) -> Real
     }
 }
 
+/// So many times a way.
+#[tactic(auto, using(crate::proofs::Shares::product_bound))]
+fn times(way: i64, n: u64) -> i64
+    requires way { unsigned_abs way ≤ spec.farthest }
+    requires few { n ≤ 40 }
+    ensures { result ≡ way *ℤ pos n }
+{
+    (way as i128 * n as i128) as i64
+}
+
+/// A part of a way, rounded down.
+#[tactic(auto, using(crate::proofs::Shares::share_bound))]
+fn part_of(way: i64, pieces: u64) -> i64
+    requires { 0 < pieces }
+    ensures { result ≡ int_div_euclid way (pos pieces) }
+{
+    (way as i128).div_euclid(pieces as i128) as i64
+}
+
+/// How far on piece `n` begins.
+fn turned(arc: &Sweep, n: u64) -> Real
+    requires way { unsigned_abs arc.now.way ≤ spec.farthest }
+    requires pieces { 0 < arc.now.pieces }
+    requires few { n ≤ 40 }
+    ensures { result ≡ spec.turned arc.now n }
+{
+    Real {
+        count: part_of(times(arc.way, n), arc.pieces),
+    }
+}
+
 /// The angle where piece `n` begins, and the one before it ends.
-fn angle_at(arc: &Arc, n: u64) -> Result<Real, Undefined>
-    requires way { unsigned_abs arc.now.way ≤ 10 * full_turn }
+fn angle_at(arc: &Sweep, n: u64) -> Result<Real, Undefined>
+    requires way { unsigned_abs arc.now.way ≤ spec.farthest }
     requires pieces { 0 < arc.now.pieces }
     requires few { n ≤ 40 }
     ensures { result ≡ spec.angle_at arc.now n }
 {
-    let turned = (arc.way as i128 * n as i128).div_euclid(arc.pieces as i128);
-    real_of(arc.first.count as i128 + turned)
+    add(arc.first, turned(arc, n))
 }
 
 /// The point at an angle.
-fn rim(arc: &Arc, angle: Real) -> Result<(Real, Real), Undefined>
+fn rim(arc: &Sweep, angle: Real) -> Result<(Real, Real), Undefined>
     ensures { result ≡ spec.rim arc.now angle }
 {
     let right = mul(arc.radius, cos(angle))?;
@@ -165,7 +195,7 @@ fn behind(point: (Real, Real), far: Real, angle: Real) -> Result<(Real, Real), U
 type Bow = ((Real, Real), (Real, Real), (Real, Real));
 
 /// The two control points and the end of the piece between two angles.
-fn bow(arc: &Arc, from: Real, to: Real) -> Result<Bow, Undefined>
+fn bow(arc: &Sweep, from: Real, to: Real) -> Result<Bow, Undefined>
     ensures { result ≡ spec.bow arc.now from to }
 {
     let first = rim(arc, from)?;
@@ -177,8 +207,8 @@ fn bow(arc: &Arc, from: Real, to: Real) -> Result<Bow, Undefined>
 }
 
 /// Those of piece `n`.
-fn bow_at(arc: &Arc, n: u64) -> Result<Bow, Undefined>
-    requires way { unsigned_abs arc.now.way ≤ 10 * full_turn }
+fn bow_at(arc: &Sweep, n: u64) -> Result<Bow, Undefined>
+    requires way { unsigned_abs arc.now.way ≤ spec.farthest }
     requires pieces { 0 < arc.now.pieces }
     requires few { n < 40 }
     ensures { result ≡ spec.bow_at arc.now n }
@@ -189,8 +219,8 @@ fn bow_at(arc: &Arc, n: u64) -> Result<Bow, Undefined>
 }
 
 /// Piece `n` as a curve: undefinedresult, limitcheck.
-fn piece(matrix: &Matrix, arc: &Arc, n: u64) -> Result<Segment, ErrorName>
-    requires way { unsigned_abs arc.now.way ≤ 10 * full_turn }
+fn piece(matrix: &Matrix, arc: &Sweep, n: u64) -> Result<Segment, ErrorName>
+    requires way { unsigned_abs arc.now.way ≤ spec.farthest }
     requires pieces { 0 < arc.now.pieces }
     requires few { n < 40 }
     ensures { result ≡ spec.piece matrix.now arc.now n }
@@ -201,8 +231,8 @@ fn piece(matrix: &Matrix, arc: &Arc, n: u64) -> Result<Segment, ErrorName>
 
 /// All pieces: undefinedresult, limitcheck.
 #[tactic(auto, using(crate::proofs::Pieces::piece_made, crate::proofs::Pieces::piece_refused))]
-fn pieces(alloc: Global, matrix: &Matrix, arc: &Arc) -> Result<Vec<Segment>, Refusal>
-    requires way { unsigned_abs arc.now.way ≤ 10 * full_turn }
+fn pieces(alloc: Global, matrix: &Matrix, arc: &Sweep) -> Result<Vec<Segment>, Refusal>
+    requires way { unsigned_abs arc.now.way ≤ spec.farthest }
     requires few { arc.now.pieces ≤ 40 }
     ensures { MatchResult result
         (λ curves. spec.pieces_from matrix.now arc.now 0 arc.now.pieces [] ≡ Ok curves.items)
@@ -210,14 +240,17 @@ fn pieces(alloc: Global, matrix: &Matrix, arc: &Arc) -> Result<Vec<Segment>, Ref
 {
     let mut curves = Vec::new(alloc);
     for n in 0..arc.pieces {
-        let curve = piece(matrix, arc, n)?;
+        let curve = match piece(matrix, arc, n) {
+            Ok(curve) => curve,
+            Err(error) => return Err(Refusal::Error(error)),
+        };
         curves.push(curve)?;
     }
     Ok(curves)
 }
 
 /// Where an arc begins: undefinedresult, limitcheck.
-fn arc_start(matrix: &Matrix, arc: &Arc) -> Result<DevicePoint, ErrorName>
+fn arc_start(matrix: &Matrix, arc: &Sweep) -> Result<DevicePoint, ErrorName>
     ensures { result ≡ spec.arc_start matrix.now arc.now }
 {
     let (x, y) = defined(rim(arc, arc.first))?;
@@ -259,7 +292,7 @@ fn arc_by(turn: Turn, state: &mut State) -> Result<(), Refusal>
     let radius = real_at(operands, 2)?;
     let (x, y) = point_at(operands, 3)?;
     let way = turn_right(way_of(turn, from.count, to.count))?;
-    let arc = Arc {
+    let arc = Sweep {
         x,
         y,
         radius,

@@ -1,5 +1,5 @@
 //! Paths: the current point, the points that count, and what one more segment makes of a path (section 4.4 of the language manual).
-ghost use Rattle.std.specs.Prelude.{◌≡◌, ◌≤◌, [], ◌∷◌, ◌++◌, reverse, OnOk, IsTrue};
+ghost use Rattle.std.specs.Prelude.{◌≡◌, ◌≤◌, [], ◌∷◌, ◌<◌, ◌++◌, length, reverse, slice_get, Some, OnOk, IsTrue};
 ghost use Rattle.ps_shapes.specs.Path.{is_move};
 ghost use Rattle.path_build.specs.Paths as spec;
 
@@ -20,13 +20,33 @@ fn newest_of(path: &Path) -> Option<Segment>
     }
 }
 
+/// Where a segment begins a subpath.
+fn begins(segment: Segment) -> Option<DevicePoint>
+    ensures { result ≡ spec.begins segment }
+{
+    match segment {
+        Segment::Move(point) => Some(point),
+        Segment::Line(_) => None,
+        Segment::Curve(_, _, _) => None,
+        Segment::Close => None,
+    }
+}
+
+/// The segment that is so far before the newest.
+fn before_end(segments: &[Segment], back: usize) -> Segment
+    requires { back < length segments.now }
+    ensures { slice_get (reverse segments.now) back ≡ Some result }
+{
+    segments[segments.len() - 1 - back]
+}
+
 /// Where the newest subpath began.
-#[tactic(auto, using(crate::proofs::Starts::begins_here, crate::proofs::Starts::before_line, crate::proofs::Starts::before_curve, crate::proofs::Starts::before_close))]
+#[tactic(auto, using(crate::proofs::Starts::begins_here, crate::proofs::Starts::begins_before))]
 fn start_of(segments: &[Segment]) -> Option<DevicePoint>
     ensures { result ≡ spec.start_behind (reverse segments.now) }
 {
     for back in 0..segments.len() {
-        if let Segment::Move(point) = segments[segments.len() - 1 - back] {
+        if let Some(point) = begins(before_end(segments, back)) {
             return Some(point);
         }
     }
