@@ -162,7 +162,7 @@ pathforall_keeps text s W f =
     read_keeps (object_at 3 (ops s)) (λ m a.
     read_keeps (frames_room 1 s.frames) (λ _ _.
     begins_keeps f (drop 4 (ops s)) (frame.Walk (walk_of (path_of s) m l c z)) (drop_fits W.shapes 4 (ops s) f.state.registers.operands)
-        (operand_fits text s W f 3 m a, operand_fits text s W f 2 l b, operand_fits text s W f 1 c d, operand_fits text s W f 0 z e))))))))
+    (operand_fits text s W f 3 m a, operand_fits text s W f 2 l b, operand_fits text s W f 1 c d, operand_fits text s W f 0 z e))))))))
 
 -- ---- all of them
 

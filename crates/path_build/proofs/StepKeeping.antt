@@ -59,7 +59,7 @@ module _ (text : List ℕ) (most : ℕ) (s : State) (W : World) (w : PathWalk) (
   walk_keeps (Some x) =
       read_keeps (ready x (body_for w x) here) (λ t _.
       step_keeps s.frames h h.state.frames.1 (with_told t (ops s)) (frame.Walk (past w) ∷ []) (call_of (body_for w x)) (told_fits W.shapes t (ops s) operands) (h.state.frames.0, tt)
-          (call_fits W.shapes (body_for w x) (body_fits W.shapes w x h.state.frames.0)))
+      (call_fits W.shapes (body_for w x) (body_fits W.shapes w x h.state.frames.0)))
 
 step_kept : (text : List ℕ) (most : ℕ) (s : State) (W : World) (f : Frame) → Fits text W (on (f ∷ s.frames) s) → Keeps text most s.frames (step f (on (f ∷ s.frames) s)) (on (f ∷ s.frames) s) W
 step_kept text most s W (frame.Walk w) h = walk_keeps text most s W w h (slice_get w.path w.at)

@@ -9,8 +9,6 @@ mod laws;
 mod paths;
 mod points;
 mod running;
-#[cfg(test)]
-mod tests;
 mod walking;
 
 pub use laws::{path_build_lawful, path_steps_lawful, path_steps_steady};

@@ -1,1 +1,0 @@
-//! Paths are built, told and walked over.
