@@ -1,5 +1,6 @@
 pub mod Boxing
 pub mod Counting
+pub mod Drawing
 pub mod Keeping
 pub mod Pieces
 pub mod Shares

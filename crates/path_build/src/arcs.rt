@@ -1,5 +1,5 @@
 //! Arcs of circles, as curves (section 8.2 of the language manual).
-ghost use Rattle.std.specs.Prelude.{◌≡◌, ◌≤◌, ◌<◌, ◌*◌, ◌^◌, ◌*ℤ◌, pos, [], ◌∷◌, ◌++◌, unsigned_abs, Ok, IfOk, MatchResult, OnOk};
+ghost use Rattle.std.specs.Prelude.{◌≡◌, ◌≤◌, ◌<◌, ◌*◌, ◌^◌, ◌*ℤ◌, pos, [], ◌∷◌, ◌++◌, length, unsigned_abs, Ok, IfOk, MatchResult, OnOk};
 ghost use Rattle.std.specs.Int.{int_div_euclid};
 ghost use Rattle.ps_operator.specs.Owes.{DoesAlone};
 ghost use Rattle.path_build.specs.Arcs as spec;
@@ -281,11 +281,28 @@ fn append(path: &mut Path, point: DevicePoint, curves: &[Segment]) -> Result<(),
     Ok(())
 }
 
+/// Draws an arc, in the place of the newest five operands: undefinedresult, limitcheck.
+#[tactic(auto, using(crate::proofs::Drawing::curves_refused))]
+fn draw(arc: &Sweep, state: &mut State) -> Result<(), Refusal>
+    requires way { unsigned_abs arc.now.way ≤ spec.farthest }
+    requires few { arc.now.pieces ≤ 40 }
+    requires operands { 5 ≤ length state.old.regs.operands }
+    ensures { DoesAlone (λ s. spec.draws_arc s arc.now) state.old result state.new }
+{
+    let operands = &mut state.regs.operands;
+    let graphics = &mut state.regs.state;
+    let point = arc_start(&graphics.ctm, arc)?;
+    let curves = pieces(operands.alloc(), &graphics.ctm, arc)?;
+    point_room(&graphics.path, 1 + 3 * arc.pieces as usize)?;
+    append(&mut graphics.path, point, curves.as_slice())?;
+    operands.shrink(5);
+    Ok(())
+}
+
 fn arc_by(turn: Turn, state: &mut State) -> Result<(), Refusal>
     ensures { DoesAlone (spec.arc_by turn) state.old result state.new }
 {
-    let operands = &mut state.regs.operands;
-    let alloc = operands.alloc();
+    let operands = &state.regs.operands;
     operands.need(5)?;
     let to = real_at(operands, 0)?;
     let from = real_at(operands, 1)?;
@@ -300,13 +317,7 @@ fn arc_by(turn: Turn, state: &mut State) -> Result<(), Refusal>
         way,
         pieces: pieces_of(way),
     };
-    let graphics = &mut state.regs.state;
-    let point = arc_start(&graphics.ctm, &arc)?;
-    let curves = pieces(alloc, &graphics.ctm, &arc)?;
-    point_room(&graphics.path, 1 + 3 * arc.pieces as usize)?;
-    append(&mut graphics.path, point, curves.as_slice())?;
-    operands.shrink(5);
-    Ok(())
+    draw(&arc, state)
 }
 
 pub(crate) fn arc(state: &mut State) -> Result<(), Refusal>
