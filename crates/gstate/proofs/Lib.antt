@@ -1,0 +1,4 @@
+pub mod Dashing
+pub mod Keeping
+pub mod Looking
+pub mod Returning
