@@ -21,8 +21,8 @@ module _ (seen : List Real) (xs : List Object) (i : ℕ) (x : Object) (here : sl
   pub length_read : (r : Real) → length_of x.kind ≡ Ok r → lengths_from seen (drop i xs) ≡ lengths_from (seen ++ r ∷ []) (drop (i + 1) xs)
   length_read r e = lengths_at (Ok r) e
 
-  pub length_refused : (n : ErrorName) → length_of x.kind ≡ Err n → lengths_from seen (drop i xs) ≡ Err n
-  length_refused n e = lengths_at (Err n) e
+  pub length_refused : (n : ErrorName) → length_of x.kind ≡ Err n → lengths_from seen (drop i xs) ≡ lengths_from [] xs → lengths_from [] xs ≡ Err n
+  length_refused n e p = sym p ∙ lengths_at (Err n) e
 
 pub lengths_read : (seen : List Real) (xs : List Object) (i : ℕ) → i ≡ length xs → lengths_from seen (drop i xs) ≡ Ok seen
 lengths_read seen xs i e = ap (lengths_from seen) (drop_all i xs (omega (arith, e)))
@@ -43,12 +43,16 @@ some_there (r ∷ rs) e = go (is_some r) refl (some_there rs) e
     go true p h e = (0, r, omega arith, refl, positive r.count p)
     go false p h e = let a = h e in (suc a.0, a.1, omega (arith, a.2), a.3, a.4)
 
+filled : (n : ℕ) → nat_lt 0 (suc n) ≡ true
+filled n = grind arith
+
 not_idle : (rs : List Real) (r : Real) → is_idle (r ∷ rs) ≡ false → any_of is_some (r ∷ rs) ≡ true
-not_idle rs r e = go (any_of is_some (r ∷ rs)) e
+not_idle rs r e = go (nat_lt 0 (suc (length rs))) (any_of is_some (r ∷ rs)) (filled (length rs)) e
   where
-    go : (b : Bool) → not b ≡ false → b ≡ true
-    go true e = refl
-    go false e = cc
+    go : (a b : Bool) → a ≡ true → (a && not b) ≡ false → b ≡ true
+    go true true p e = refl
+    go true false p e = cc
+    go false b p e = cc
 
 pub is_dash : (rs : List Real) → All (λ (real : Real). pos 0 ≤ℤ real.count) rs → is_idle rs ≡ false → length rs ≤ 32 → IsDash rs
 is_dash [] h e l = tt

@@ -11,7 +11,9 @@ use Rattle.ps_objects.specs.Object.{cell_named}
 use Rattle.ps_kinds.specs.declared.graphics.GState.{GState}
 use Rattle.ps_kinds.specs.declared.graphics.Layer.{Layer}
 use Rattle.ps_kinds.specs.declared.ranges.LineCap.{LineCap}
+use Rattle.ps_kinds.specs.declared.ranges.LineCap.TheVariants as cap
 use Rattle.ps_kinds.specs.declared.ranges.LineJoin.{LineJoin}
+use Rattle.ps_kinds.specs.declared.ranges.LineJoin.TheVariants as join
 use Rattle.ps_kinds.specs.declared.state.State.{State}
 use Rattle.ps_memory.specs.Tree.{Change, done, wipes}
 use Rattle.ps_meaning.specs.Answer.{names_taken}
@@ -34,7 +36,7 @@ use Rattle.real_operands.specs.Reals.{real_at}
 use Rattle.gstate.specs.Beginning.{with_new_page, with_new_lines, begun, initgraphics}
 use Rattle.gstate.specs.Dashes.{dash_of, with_dash, setdash, currentdash}
 use Rattle.gstate.specs.Layers.{pushed, gsave, size_changes, left_of, taken_back, back, goes_back, lowest, grestore, grestoreall}
-use Rattle.gstate.specs.Lines.{width_of, cap_of, cap_number, join_of, join_number, miter_of, with_width, with_cap, with_join, with_miter, with_flat, with_adjust, setlinewidth, setlinecap, setlinejoin, setmiterlimit, setflat, setstrokeadjust, currentlinewidth, currentlinecap, currentlinejoin, currentmiterlimit, currentflat, currentstrokeadjust}
+use Rattle.gstate.specs.Lines.{width_of, cap_of, cap_kind, join_of, join_kind, miter_of, with_width, with_cap, with_join, with_miter, with_flat, with_adjust, setlinewidth, setlinecap, setlinejoin, setmiterlimit, setflat, setstrokeadjust, currentlinewidth, currentlinecap, currentlinejoin, currentmiterlimit, currentflat, currentstrokeadjust}
 use Rattle.gstate.specs.Operators.{operators, run}
 use Rattle.gstate.specs.Setting.{sets, tells}
 use Rattle.gstate.proofs.Looking.{items_seek}
@@ -138,14 +140,26 @@ tells_keeps {s = s} f k h =
     read_keeps (room_for 1 (ops s)) (λ _ _.
     leaves_keeps f (literal k ∷ ops s) (h, f.state.registers.operands))
 
+cap_fits : (K : Shapes) (c : LineCap) → FitsObject K (literal (cap_kind c))
+unfolding cap_kind
+cap_fits K cap.Butt = tt
+cap_fits K cap.Round = tt
+cap_fits K cap.Square = tt
+
+join_fits : (K : Shapes) (j : LineJoin) → FitsObject K (literal (join_kind j))
+unfolding join_kind
+join_fits K join.Miter = tt
+join_fits K join.Round = tt
+join_fits K join.Bevel = tt
+
 currentlinewidth_keeps : IsLawful currentlinewidth
 currentlinewidth_keeps text s W f = tells_keeps f (kind.Real s.regs.state.width) tt
 
 currentlinecap_keeps : IsLawful currentlinecap
-currentlinecap_keeps text s W f = tells_keeps f (kind.Integer (cap_number s.regs.state.cap)) tt
+currentlinecap_keeps text s W f = tells_keeps f (cap_kind s.regs.state.cap) (cap_fits W.shapes s.regs.state.cap)
 
 currentlinejoin_keeps : IsLawful currentlinejoin
-currentlinejoin_keeps text s W f = tells_keeps f (kind.Integer (join_number s.regs.state.join)) tt
+currentlinejoin_keeps text s W f = tells_keeps f (join_kind s.regs.state.join) (join_fits W.shapes s.regs.state.join)
 
 currentmiterlimit_keeps : IsLawful currentmiterlimit
 currentmiterlimit_keeps text s W f = tells_keeps f (kind.Real s.regs.state.miter) tt
@@ -258,10 +272,10 @@ module _ (text : List ℕ) (s : State) (W : World) (f : Fits text W s) (ls : Lis
   unfolding size_changes
   sized = go (nat_eq new.wide old.wide && nat_eq new.high old.high) refl
     where
-      abbrev new : GState
+      new : GState
       new = (taken_back s.regs.state ls).0
 
-      abbrev old : GState
+      old : GState
       old = s.regs.state
 
       same : (nat_eq new.wide old.wide && nat_eq new.high old.high) ≡ true → W.size ≡ page_of new

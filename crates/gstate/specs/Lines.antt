@@ -7,6 +7,7 @@ use Rattle.ps_fixed.specs.Rounding.{real_of}
 use Rattle.ps_names.specs.declared.error_name.ErrorName.{ErrorName}
 use Rattle.ps_names.specs.declared.error_name.ErrorName.TheVariants.{RangeCheck}
 use Rattle.ps_objects.specs.Operands.{needed, boolean_at, integer_at}
+use Rattle.ps_objects.specs.declared.object.Kind.{Kind}
 use Rattle.ps_objects.specs.declared.object.Kind.TheVariants as kind
 use Rattle.ps_kinds.specs.declared.graphics.GState.{GState}
 use Rattle.ps_kinds.specs.declared.ranges.LineCap.{LineCap}
@@ -33,11 +34,11 @@ cap_of n =
     else if int_eq n (pos 2) then Ok cap.Square
     else Err RangeCheck
 
--- the number of a cap
-abbrev pub cap_number : LineCap → ℤ
-cap_number cap.Butt = pos 0
-cap_number cap.Round = pos 1
-cap_number cap.Square = pos 2
+-- the number of a cap as an integer; no operator's proof opens this
+unfoldable pub cap_kind : LineCap → Kind
+cap_kind cap.Butt = kind.Integer (pos 0)
+cap_kind cap.Round = kind.Integer (pos 1)
+cap_kind cap.Square = kind.Integer (pos 2)
 
 -- 0 is a miter join, 1 a round one and 2 a bevel join; all else is a rangecheck
 abbrev pub join_of : ℤ → Result LineJoin ErrorName
@@ -47,11 +48,11 @@ join_of n =
     else if int_eq n (pos 2) then Ok join.Bevel
     else Err RangeCheck
 
--- the number of a join
-abbrev pub join_number : LineJoin → ℤ
-join_number join.Miter = pos 0
-join_number join.Round = pos 1
-join_number join.Bevel = pos 2
+-- the number of a join as an integer; no operator's proof opens this
+unfoldable pub join_kind : LineJoin → Kind
+join_kind join.Miter = kind.Integer (pos 0)
+join_kind join.Round = kind.Integer (pos 1)
+join_kind join.Bevel = kind.Integer (pos 2)
 
 -- 1 or more, else rangecheck
 abbrev pub miter_of : Real → Result Real ErrorName
@@ -139,11 +140,11 @@ currentlinewidth s = tells (kind.Real s.regs.state.width) s
 
 -- currentlinecap i
 abbrev pub currentlinecap : State → Ask
-currentlinecap s = tells (kind.Integer (cap_number s.regs.state.cap)) s
+currentlinecap s = tells (cap_kind s.regs.state.cap) s
 
 -- currentlinejoin i
 abbrev pub currentlinejoin : State → Ask
-currentlinejoin s = tells (kind.Integer (join_number s.regs.state.join)) s
+currentlinejoin s = tells (join_kind s.regs.state.join) s
 
 -- currentmiterlimit n
 abbrev pub currentmiterlimit : State → Ask

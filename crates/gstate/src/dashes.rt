@@ -50,10 +50,18 @@ fn lengths_of(alloc: Global, items: &Sequence<Object>) -> Result<Sequence<Real>,
 {
     let mut lengths = Sequence::new(alloc);
     for at in 0..items.len() {
-        let length = length_of(&items.at(at).kind)?;
-        lengths.push(length)?;
+        match length_of(&items.at(at).kind) {
+            Ok(length) => lengths.push(length)?,
+            Err(error) => return Err(Refusal::Error(error)),
+        }
     }
     Ok(lengths)
+}
+
+fn is_some(length: Real) -> bool
+    ensures { result ≡ spec.is_some length }
+{
+    length.count > 0
 }
 
 /// Whether one of the lengths is more than 0.
@@ -62,7 +70,7 @@ fn any_some(lengths: &Sequence<Real>) -> bool
     ensures { result ≡ any_of spec.is_some lengths.now }
 {
     for at in 0..lengths.len() {
-        if lengths.at(at).count > 0 {
+        if is_some(*lengths.at(at)) {
             return true;
         }
     }

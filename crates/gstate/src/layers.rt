@@ -1,7 +1,7 @@
 //! The graphics stack (section 4.2 of the language manual).
 #![tactic(auto)]
 
-ghost use Rattle.std.specs.Prelude.{◌≡◌, ◌&&◌, nat_eq, true, IfOk, OnOk};
+ghost use Rattle.std.specs.Prelude.{◌≡◌, ◌&&◌, nat_eq, true, false, IfOk, OnOk};
 ghost use Rattle.ps_meaning.specs.Answer.{changed_in};
 ghost use Rattle.ps_meaning.specs.Ready.{Ready};
 ghost use Rattle.ps_operator.specs.Owes.{Does, DoesAlone};
@@ -96,7 +96,7 @@ fn is_base(layer: &Layer) -> bool
 }
 
 /// Takes off the layers above the newest base, or above the oldest layer.
-#[tactic(auto, using(crate::proofs::Returning::lowest_here, crate::proofs::Returning::lowest_below))]
+#[tactic(auto, using(crate::proofs::Returning::lowest_here, crate::proofs::Returning::lowest_base, crate::proofs::Returning::lowest_below))]
 fn go_down(states: &mut GStack)
     ensures { states.new ≡ spec.lowest states.old }
 {

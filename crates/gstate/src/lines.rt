@@ -15,10 +15,17 @@ use ps_operator::literal;
 use real_operands::{defined, real_at};
 
 /// The absolute value: undefinedresult.
+fn magnitude(real: Real) -> Result<Real, ErrorName>
+    ensures { result ≡ spec.width_of real }
+{
+    defined(real_of((real.count as i128).abs()))
+}
+
+/// The absolute value as a line width: undefinedresult.
 fn width_of(real: Real) -> Result<LineWidth, ErrorName>
     ensures { result ≡ spec.width_of real }
 {
-    let width = defined(real_of((real.count as i128).abs()))?;
+    let width = magnitude(real)?;
     Ok(LineWidth::new(width))
 }
 
@@ -34,13 +41,15 @@ fn cap_of(n: i32) -> Result<LineCap, ErrorName>
     }
 }
 
-fn cap_number(cap: LineCap) -> i32
-    ensures { result ≡ spec.cap_number cap }
+/// The number of a cap.
+#[tactic(auto, unfolding(crate::specs::Lines::cap_kind))]
+fn cap_kind(cap: LineCap) -> Kind
+    ensures { result ≡ spec.cap_kind cap }
 {
     match cap {
-        LineCap::Butt => 0,
-        LineCap::Round => 1,
-        LineCap::Square => 2,
+        LineCap::Butt => Kind::Integer(0),
+        LineCap::Round => Kind::Integer(1),
+        LineCap::Square => Kind::Integer(2),
     }
 }
 
@@ -56,13 +65,15 @@ fn join_of(n: i32) -> Result<LineJoin, ErrorName>
     }
 }
 
-fn join_number(join: LineJoin) -> i32
-    ensures { result ≡ spec.join_number join }
+/// The number of a join.
+#[tactic(auto, unfolding(crate::specs::Lines::join_kind))]
+fn join_kind(join: LineJoin) -> Kind
+    ensures { result ≡ spec.join_kind join }
 {
     match join {
-        LineJoin::Miter => 0,
-        LineJoin::Round => 1,
-        LineJoin::Bevel => 2,
+        LineJoin::Miter => Kind::Integer(0),
+        LineJoin::Round => Kind::Integer(1),
+        LineJoin::Bevel => Kind::Integer(2),
     }
 }
 
@@ -199,15 +210,15 @@ pub(crate) fn currentlinewidth(state: &mut State) -> Result<(), Refusal>
 pub(crate) fn currentlinecap(state: &mut State) -> Result<(), Refusal>
     ensures { DoesAlone spec.currentlinecap state.old result state.new }
 {
-    let cap = cap_number(state.regs.state.cap);
-    tell(state, Kind::Integer(cap))
+    let cap = cap_kind(state.regs.state.cap);
+    tell(state, cap)
 }
 
 pub(crate) fn currentlinejoin(state: &mut State) -> Result<(), Refusal>
     ensures { DoesAlone spec.currentlinejoin state.old result state.new }
 {
-    let join = join_number(state.regs.state.join);
-    tell(state, Kind::Integer(join))
+    let join = join_kind(state.regs.state.join);
+    tell(state, join)
 }
 
 pub(crate) fn currentmiterlimit(state: &mut State) -> Result<(), Refusal>
