@@ -46,7 +46,7 @@ back R ls = record R { state = (taken_back R.state ls).0; states = (taken_back R
 abbrev pub goes_back : State → List Layer → Ask
 goes_back s ls =
     done (size_changes (taken_back s.regs.state ls).0 s.regs.state)
-        (quiet (record s { regs = back s.regs ls }))
+    (quiet (record s { regs = back s.regs ls }))
 
 -- grestore
 abbrev pub grestore : State → Ask

@@ -8,8 +8,8 @@ ghost use Rattle.gstate.specs.Setting.{tells};
 
 use ps_fixed::real_of;
 use ps_kinds::{
-    ErrorName, GState, Kind, LineCap, LineJoin, LineWidth, MiterLimit, ONE, Operands, Real, Refusal,
-    State,
+    ErrorName, GState, Kind, LineCap, LineJoin, LineWidth, MiterLimit, ONE, Operands, Real,
+    Refusal, State,
 };
 use ps_operator::literal;
 use real_operands::{defined, real_at};
