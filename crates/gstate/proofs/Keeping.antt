@@ -1,13 +1,11 @@
 -- Each operator keeps a state that fits: its tree again, with what fits beside each end.
-use Rattle.std.proofs.Common.{◌≡◌, ℕ, zero, suc, ◌+◌, ◌<◌, Bool, true, false, cond, ◌&&◌, nat_eq, List, [], ◌∷◌, ◌++◌, drop, refl, sym, ap, ◌∙◌, arith}
+use Rattle.std.proofs.Common.{◌≡◌, ℕ, Bool, true, false, cond, ◌&&◌, nat_eq, List, [], ◌∷◌, drop, refl, sym, ◌∙◌, arith}
 use Rattle.ps_shapes.specs.declared.numbers.Matrix.{Matrix}
 use Rattle.ps_shapes.specs.declared.numbers.Real.{Real}
 use Rattle.ps_objects.specs.Operands.{needed, room_for, object_at, boolean_at, integer_at, array_at, readable_at}
 use Rattle.ps_objects.specs.declared.object.Kind.{Kind}
 use Rattle.ps_objects.specs.declared.object.Kind.TheVariants as kind
 use Rattle.ps_objects.specs.declared.object.Object.{Object}
-use Rattle.ps_objects.specs.declared.objects.Interval.{Interval}
-use Rattle.ps_objects.specs.Object.{cell_named}
 use Rattle.ps_kinds.specs.declared.graphics.GState.{GState}
 use Rattle.ps_kinds.specs.declared.graphics.Layer.{Layer}
 use Rattle.ps_kinds.specs.declared.ranges.LineCap.{LineCap}
@@ -15,16 +13,16 @@ use Rattle.ps_kinds.specs.declared.ranges.LineCap.TheVariants as cap
 use Rattle.ps_kinds.specs.declared.ranges.LineJoin.{LineJoin}
 use Rattle.ps_kinds.specs.declared.ranges.LineJoin.TheVariants as join
 use Rattle.ps_kinds.specs.declared.state.State.{State}
-use Rattle.ps_memory.specs.Tree.{Change, done, wipes}
+use Rattle.ps_memory.specs.Tree.{Change, wipes}
 use Rattle.ps_meaning.specs.Answer.{names_taken}
 use Rattle.ps_meaning.specs.Fits.{Shapes, FitsObject}
 use Rattle.ps_meaning.specs.Ready.{Fits}
 use Rattle.ps_meaning.specs.Registers.{FitsState, FitsLayers}
 use Rattle.ps_meaning.specs.Sound.{Size, World, StartStands}
 use Rattle.ps_meaning.specs.Start.{default_matrix, empty_dash_object}
-use Rattle.ps_operator.specs.Arrays.{items_from, items_of}
+use Rattle.ps_operator.specs.Arrays.{items_of}
 use Rattle.ps_operator.specs.Budgets.{layer_room}
-use Rattle.ps_operator.specs.Lawful.{HasItems, Leaves, Changes, Keeps, IsLawful, Looks}
+use Rattle.ps_operator.specs.Lawful.{Leaves, Changes, Keeps, IsLawful}
 use Rattle.ps_operator.specs.Operators.{AreLawful}
 use Rattle.ps_operator.specs.Registers.{ops, literal, quiet}
 use Rattle.ps_operator.proofs.Ending.{registers_keeps}
@@ -35,7 +33,7 @@ use Rattle.ps_operator.proofs.Seeking.{Any, seeking_keeps}
 use Rattle.real_operands.specs.Reals.{real_at}
 use Rattle.gstate.specs.Beginning.{with_new_page, with_new_lines, begun, initgraphics}
 use Rattle.gstate.specs.Dashes.{dash_of, with_dash, setdash, currentdash}
-use Rattle.gstate.specs.Layers.{pushed, gsave, size_changes, left_of, taken_back, back, goes_back, lowest, grestore, grestoreall}
+use Rattle.gstate.specs.Layers.{pushed, gsave, size_changes, taken_back, back, goes_back, lowest, grestore, grestoreall}
 use Rattle.gstate.specs.Lines.{width_of, cap_of, cap_kind, join_of, join_kind, miter_of, with_width, with_cap, with_join, with_miter, with_flat, with_adjust, setlinewidth, setlinecap, setlinejoin, setmiterlimit, setflat, setstrokeadjust, currentlinewidth, currentlinecap, currentlinejoin, currentmiterlimit, currentflat, currentstrokeadjust}
 use Rattle.gstate.specs.Operators.{operators, run}
 use Rattle.gstate.specs.Setting.{sets, tells}

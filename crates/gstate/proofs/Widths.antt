@@ -1,8 +1,7 @@
 -- A width that is told isn't negative.
-use Rattle.std.proofs.Common.{◌≡◌, ℕ, Bool, true, false, cond, ℤ, pos, nat_lt, Result, Ok, Err, subst, arith}
+use Rattle.std.proofs.Common.{◌≡◌, ℕ, Bool, true, false, cond, pos, Result, Ok, Err, subst, arith}
 use Rattle.std.specs.Prelude.{◌≤ℤ◌, unsigned_abs}
 use Rattle.ps_shapes.specs.declared.numbers.Real.{Real}
-use Rattle.ps_names.specs.declared.error_name.ErrorName.{ErrorName}
 use Rattle.ps_fixed.specs.Rounding.{fits_i64, real_of}
 use Rattle.ps_fixed.specs.declared.rounding.Undefined.{Undefined}
 use Rattle.real_operands.specs.Reals.{defined}
