@@ -96,12 +96,12 @@ currentgray_keeps text s W f =
 currentrgbcolor_keeps : IsLawful currentrgbcolor
 currentrgbcolor_keeps text s W f =
     read_keeps (room_for 3 (ops s)) (λ _ _.
-    leaves_keeps f (pushes_rgb (rgb_of s.regs.state.colour) (ops s)) (tt, tt, tt, f.state.registers.operands))
+    leaves_keeps f (pushes_rgb (rgb_of s.regs.state.colour) (ops s)) (tt, (tt, (tt, f.state.registers.operands))))
 
 currentcmykcolor_keeps : IsLawful currentcmykcolor
 currentcmykcolor_keeps text s W f =
     read_keeps (room_for 4 (ops s)) (λ _ _.
-    leaves_keeps f (pushes_cmyk (cmyk_of s.regs.state.colour) (ops s)) (tt, tt, tt, tt, f.state.registers.operands))
+    leaves_keeps f (pushes_cmyk (cmyk_of s.regs.state.colour) (ops s)) (tt, (tt, (tt, (tt, f.state.registers.operands)))))
 
 by_space_keeps : {text : List ℕ} {s : State} {W : World} {t u v : Ask} (c : Colour) → Keeps text 4 s.frames t s W → Keeps text 4 s.frames u s W → Keeps text 4 s.frames v s W → Keeps text 4 s.frames (by_space c t u v) s W
 by_space_keeps (colour.Gray g) h i j = h
@@ -156,11 +156,13 @@ currentcolorspace_keeps text s W f =
       lawful = (
         sym f.state.section,
         refl,
-        (1, new_here W s.count f.state.ahead c (shape.Array 1) (sym f.state.section) refl, one_below),
-        refl,
-        tt,
-        λ _. refl,
-        made_leaves text s W f c (shape.Array 1) (x ∷ ops s) 1 refl refl (new_fits f (shape.Array 1) x (ops s) refl refl f.state.registers.operands) (room_kept s 1 u),
+        (
+          (1, new_here W s.count f.state.ahead c (shape.Array 1) (sym f.state.section) refl, one_below),
+          refl,
+          tt,
+          λ _. refl,
+          made_leaves text s W f c (shape.Array 1) (x ∷ ops s) 1 refl refl (new_fits f (shape.Array 1) x (ops s) refl refl f.state.registers.operands) (room_kept s 1 u),
+        ),
       );
     }))
 
@@ -182,7 +184,7 @@ currentscreen_keeps : IsLawful currentscreen
 currentscreen_keeps text s W f =
     let g = s.regs.state in
     read_keeps (room_for 3 (ops s)) (λ _ _.
-    leaves_keeps f (g.spot ∷ real g.angle ∷ real g.frequency ∷ ops s) (f.state.registers.state.spot, tt, tt, f.state.registers.operands))
+    leaves_keeps f (g.spot ∷ real g.angle ∷ real g.frequency ∷ ops s) (f.state.registers.state.spot, (tt, (tt, f.state.registers.operands))))
 
 settransfer_keeps : IsLawful settransfer
 settransfer_keeps text s W f =
