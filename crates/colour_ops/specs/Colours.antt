@@ -25,9 +25,13 @@ left_of_one n = if int_lt n ONE then record { count = ONE -ℤ n } else none
 abbrev pub without : Real → Real → Real
 without ink black = left_of_one (ink.count +ℤ black.count)
 
+-- 30r + 59g, over counts
+abbrev pub warm : Real → Real → ℤ
+warm r g = pos 30 *ℤ r.count +ℤ pos 59 *ℤ g.count
+
 -- 30r + 59g + 11b, over counts
 abbrev pub weights : Real → Real → Real → ℤ
-weights r g b = pos 30 *ℤ r.count +ℤ pos 59 *ℤ g.count +ℤ pos 11 *ℤ b.count
+weights r g b = warm r g +ℤ pos 11 *ℤ b.count
 
 -- a hundredth of a count, to the nearest: the sum with 50 is divided by 100
 abbrev pub hundredth : ℤ → ℤ

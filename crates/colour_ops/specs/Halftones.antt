@@ -47,16 +47,16 @@ type_from n =
     if int_eq n (pos 1) then Ok type.Spot
     else (if int_eq n (pos 3) then Ok type.Threshold else Err RangeCheck)
 
--- the type under `HalftoneType`
-abbrev pub type_in : Cell → Application HalftoneType
-type_in d =
-    look_entry d (key.Name (codes "HalftoneType")) (λ x.
+-- a type under a name
+abbrev pub type_under : Cell → List ℕ → Application HalftoneType
+type_under d name =
+    look_entry d (key.Name name) (λ x.
     read (integer_in x) (λ n.
     read (type_from n) found))
 
 -- a width or a height under a name
-abbrev pub size_in : Cell → List ℕ → Application ℕ
-size_in d name =
+abbrev pub size_under : Cell → List ℕ → Application ℕ
+size_under d name =
     look_entry d (key.Name name) (λ x.
     read (integer_in x) (λ n.
     read (size_from n) found))
@@ -75,19 +75,18 @@ abbrev pub string_in : Option Object → Result Interval ErrorName
 string_in None = Err RangeCheck
 string_in (Some x) = string_of x.access x.kind
 
--- the string under `Thresholds`
-abbrev pub string_under : Cell → Application Interval
-string_under d =
-    look_entry d (key.Name (codes "Thresholds")) (λ x. read (string_in x) found)
+-- a string under a name
+abbrev pub string_under : Cell → List ℕ → Application Interval
+string_under d name = look_entry d (key.Name name) (λ x. read (string_in x) found)
 
 -- ---- thresholds
 
 -- those of a dictionary of type 3: the width, the height and a byte for each place
 abbrev pub table_in : Cell → Application Screen
 table_in d =
-    look_then (size_in d (codes "Width")) (λ width.
-    look_then (size_in d (codes "Height")) (λ height.
-    look_then (string_under d) (λ string.
+    look_then (size_under d (codes "Width")) (λ width.
+    look_then (size_under d (codes "Height")) (λ height.
+    look_then (string_under d (codes "Thresholds")) (λ string.
     read (sized (width * height) string) (λ _.
     look_then (bytes_of string) (λ bytes.
     found (screen width height bytes))))))
@@ -99,7 +98,7 @@ thresholds_by d type.Threshold = table_in d
 
 -- those of a halftone dictionary
 abbrev pub thresholds_in : Cell → Application Screen
-thresholds_in d = look_then (type_in d) (thresholds_by d)
+thresholds_in d = look_then (type_under d (codes "HalftoneType")) (thresholds_by d)
 
 -- ---- operators
 

@@ -52,13 +52,22 @@ fn count_of(component: Component) -> i64
     component.real().count
 }
 
+/// 30r + 59g, over counts.
+fn warm(red: Component, green: Component) -> i64
+    ensures value { result ≡ spec.warm red green }
+    ensures low { pos 0 ≤ℤ result }
+    ensures high { result ≤ℤ pos 1493172224 }
+{
+    30 * count_of(red) + 59 * count_of(green)
+}
+
 /// 30r + 59g + 11b, over counts.
 fn weights(red: Component, green: Component, blue: Component) -> i64
     ensures value { result ≡ spec.weights red green blue }
     ensures low { pos 0 ≤ℤ result }
     ensures high { result ≤ℤ pos 1677721600 }
 {
-    30 * count_of(red) + 59 * count_of(green) + 11 * count_of(blue)
+    warm(red, green) + 11 * count_of(blue)
 }
 
 /// A hundredth of a count, to the nearest.

@@ -100,45 +100,54 @@ fn string_in(found: Option<Object>) -> Result<Interval, ErrorName>
     }
 }
 
-/// The type of a halftone dictionary: rangecheck.
-fn type_in<M: Mem>(alloc: Global, dict: Cell, mem: &mut M) -> Result<HalftoneType, Refusal>
-    requires { is_dict (M.log mem.old).view dict ≡ true }
+/// A type of halftone dictionaries: rangecheck.
+fn type_under<M: Mem>(
+    alloc: Global,
+    dict: Cell,
+    name: &[u8],
+    mem: &mut M,
+) -> Result<HalftoneType, Refusal>
+    requires name { length name.now ≤ 127 }
+    requires dict { is_dict (M.log mem.old).view dict ≡ true }
     ensures view { OnOk result ((M.log mem.new).view ≡ (M.log mem.old).view) }
-    ensures told { Yields (spec.type_in dict) (M.log mem.old) result (M.log mem.new) }
+    ensures told { Yields (spec.type_under dict name.now) (M.log mem.old) result (M.log mem.new) }
 {
-    let key = Key::Name(Name::from_bytes(alloc, b"HalftoneType")?);
+    let key = Key::Name(Name::from_bytes(alloc, name)?);
     let type_ = type_from(integer_in(look_entry(mem, dict, key)?)?)?;
     Ok(type_)
 }
 
 /// A width or a height: rangecheck.
-fn size_in<M: Mem>(alloc: Global, dict: Cell, name: &[u8], mem: &mut M) -> Result<u32, Refusal>
+fn size_under<M: Mem>(alloc: Global, dict: Cell, name: &[u8], mem: &mut M) -> Result<u32, Refusal>
     requires name { length name.now ≤ 127 }
     requires dict { is_dict (M.log mem.old).view dict ≡ true }
     ensures view { OnOk result ((M.log mem.new).view ≡ (M.log mem.old).view) }
     ensures positive { IfOk result (λ size. 0 < size) }
-    ensures told { Yields (spec.size_in dict name.now) (M.log mem.old) result (M.log mem.new) }
+    ensures told { Yields (spec.size_under dict name.now) (M.log mem.old) result (M.log mem.new) }
 {
     let key = Key::Name(Name::from_bytes(alloc, name)?);
     let size = size_from(integer_in(look_entry(mem, dict, key)?)?)?;
     Ok(size)
 }
 
-/// The string of thresholds: rangecheck, invalidaccess.
+/// A string that may be read: rangecheck, invalidaccess.
 #[tactic(auto, using(crate::proofs::Named::string_named))]
 fn string_under<M: Mem>(
     alloc: Global,
     state: &State,
     dict: Cell,
+    name: &[u8],
     mem: &mut M,
 ) -> Result<Interval, Refusal>
+    requires name { length name.now ≤ 127 }
     requires ready { Ready state.now (M.log mem.old).view }
     requires dict { is_dict (M.log mem.old).view dict ≡ true }
     ensures view { OnOk result ((M.log mem.new).view ≡ (M.log mem.old).view) }
     ensures string { IfOk result (λ string. is_string (M.log mem.new).view string ≡ true) }
-    ensures told { Yields (spec.string_under dict) (M.log mem.old) result (M.log mem.new) }
+    ensures told { Yields (spec.string_under dict name.now) (M.log mem.old)
+        result (M.log mem.new) }
 {
-    let key = Key::Name(Name::from_bytes(alloc, b"Thresholds")?);
+    let key = Key::Name(Name::from_bytes(alloc, name)?);
     let string = string_in(look_entry(mem, dict, key)?)?;
     Ok(string)
 }
@@ -155,9 +164,9 @@ fn table_in<M: Mem>(
     ensures view { OnOk result ((M.log mem.new).view ≡ (M.log mem.old).view) }
     ensures told { Yields (spec.table_in dict) (M.log mem.old) result (M.log mem.new) }
 {
-    let width = size_in(alloc, dict, b"Width", mem)?;
-    let height = size_in(alloc, dict, b"Height", mem)?;
-    let string = string_under(alloc, state, dict, mem)?;
+    let width = size_under(alloc, dict, b"Width", mem)?;
+    let height = size_under(alloc, dict, b"Height", mem)?;
+    let string = string_under(alloc, state, dict, b"Thresholds", mem)?;
     sized(u64::from(width) * u64::from(height), string)?;
     let bytes = bytes_of(alloc, string, mem)?;
     let table = Thresholds::new(alloc, width, height, bytes.as_slice())?;
@@ -176,7 +185,7 @@ fn thresholds_in<M: Mem>(
     ensures view { OnOk result ((M.log mem.new).view ≡ (M.log mem.old).view) }
     ensures told { Yields (spec.thresholds_in dict) (M.log mem.old) result (M.log mem.new) }
 {
-    match type_in(alloc, dict, mem)? {
+    match type_under(alloc, dict, b"HalftoneType", mem)? {
         HalftoneType::Spot => Ok(Thresholds::none(alloc)),
         HalftoneType::Threshold => {
             let table = table_in(alloc, state, dict, mem)?;
