@@ -1,6 +1,5 @@
 -- Each operator keeps a state that fits: its tree again, with what fits beside each look and end.
 use Rattle.std.proofs.Common.{◌≡◌, ℕ, ◌<◌, Bool, true, false, cond, nat_eq, List, [], ◌∷◌, drop, Option, Some, None, Result, Ok, Err, refl, sym, subst, arith}
-use Rattle.std.specs.Prelude.{codes}
 use Rattle.ps_names.specs.declared.error_name.ErrorName.{ErrorName}
 use Rattle.ps_names.specs.declared.error_name.ErrorName.TheVariants.{RangeCheck}
 use Rattle.ps_objects.specs.Access.{read_right}
@@ -41,6 +40,8 @@ use Rattle.colour_ops.specs.Setting.{sets, paints, real, setgray, currentgray, s
 use Rattle.colour_ops.specs.Spaces.{space_of, first_colour, item_colour, is_space, one_item, colour_in, setcolorspace, next_one, currentcolorspace}
 use Rattle.colour_ops.specs.Screens.{setscreen, currentscreen, settransfer, currenttransfer}
 use Rattle.colour_ops.specs.Halftones.{integer_in, size_from, type_from, type_under, size_under, sized, string_of, string_in, string_under, table_in, thresholds_by, thresholds_in, sethalftone, currenthalftone}
+use Rattle.colour_ops.specs.declared.halftones.Entry.{Entry}
+use Rattle.colour_ops.specs.declared.halftones.Entry.TheVariants as entry
 use Rattle.colour_ops.specs.declared.halftones.HalftoneType.{HalftoneType}
 use Rattle.colour_ops.specs.declared.halftones.HalftoneType.TheVariants as type
 use Rattle.colour_ops.specs.Operators.{operators, run}
@@ -209,20 +210,20 @@ string_fits W (Some x) a h e =
     string_kind W.shapes (kind.Str a) a (subst (λ k. FitsCell W.shapes (cell_named k) (takes k)) (string_there x.access x.kind a e) h) refl
 
 module _ (W : World) (d : Cell) (h : HasDict W.shapes d) where
-  type_seeks : Seeks W Any (type_under d (codes "HalftoneType"))
+  type_seeks : Seeks W Any (type_under d entry.HalftoneType)
   type_seeks = entry_seeks h (λ x _. read_seeks (integer_in x) (λ n _. read_seeks (type_from n) (λ t _. found_seeks Any t tt)))
 
-  size_seeks : (name : List ℕ) → Seeks W Any (size_under d name)
-  size_seeks name = entry_seeks h (λ x _. read_seeks (integer_in x) (λ n _. read_seeks (size_from n) (λ m _. found_seeks Any m tt)))
+  size_seeks : (e : Entry) → Seeks W Any (size_under d e)
+  size_seeks e = entry_seeks h (λ x _. read_seeks (integer_in x) (λ n _. read_seeks (size_from n) (λ m _. found_seeks Any m tt)))
 
-  string_seeks : Seeks W (HasBytes W.shapes) (string_under d (codes "Thresholds"))
+  string_seeks : Seeks W (HasBytes W.shapes) (string_under d entry.Thresholds)
   string_seeks = entry_seeks h (λ x g. read_seeks (string_in x) (λ a e. found_seeks (HasBytes W.shapes) a (string_fits W x a g e)))
 
   table_seeks : Seeks W Any (table_in d)
   table_seeks =
-      then_seeks Any (size_under d (codes "Width")) (size_seeks (codes "Width")) (λ width _.
-      then_seeks Any (size_under d (codes "Height")) (size_seeks (codes "Height")) (λ height _.
-      then_seeks (HasBytes W.shapes) (string_under d (codes "Thresholds")) string_seeks (λ string g.
+      then_seeks Any (size_under d entry.Width) (size_seeks entry.Width) (λ width _.
+      then_seeks Any (size_under d entry.Height) (size_seeks entry.Height) (λ height _.
+      then_seeks (HasBytes W.shapes) (string_under d entry.Thresholds) string_seeks (λ string g.
       read_seeks (sized _ string) (λ _ _.
       then_seeks (AreBytes W string.len) (bytes_of string) (bytes_seek g) (λ bytes _.
       found_seeks Any _ tt)))))
@@ -232,7 +233,7 @@ module _ (W : World) (d : Cell) (h : HasDict W.shapes d) where
   thresholds_seeks_by type.Threshold = table_seeks
 
   thresholds_seek : Seeks W Any (thresholds_in d)
-  thresholds_seek = then_seeks Any (type_under d (codes "HalftoneType")) type_seeks (λ t _. thresholds_seeks_by t)
+  thresholds_seek = then_seeks Any (type_under d entry.HalftoneType) type_seeks (λ t _. thresholds_seeks_by t)
 
 sethalftone_keeps : IsLawful sethalftone
 sethalftone_keeps text s W f =

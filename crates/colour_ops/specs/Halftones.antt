@@ -19,12 +19,25 @@ use Rattle.ps_operator.specs.Keys.{bytes_of}
 use Rattle.ps_operator.specs.Looks.{look_access, look_entry}
 use Rattle.ps_operator.specs.Registers.{ops, leaves}
 use Rattle.ps_operator.specs.Tree.{Ask, read, look_then, found}
+use Rattle.colour_ops.specs.declared.halftones.Entry.{Entry}
+use Rattle.colour_ops.specs.declared.halftones.Entry.TheVariants as entry
 use Rattle.colour_ops.specs.declared.halftones.HalftoneType.{HalftoneType}
 use Rattle.colour_ops.specs.declared.halftones.HalftoneType.TheVariants as type
 use Rattle.colour_ops.specs.Glyphs.{settable}
 use Rattle.colour_ops.specs.Setting.{sets}
 
 -- ---- entries: what is missing, or has another type or value, is a rangecheck
+
+-- the name of an entry
+unfoldable pub name_of : Entry → List ℕ
+name_of entry.HalftoneType = codes "HalftoneType"
+name_of entry.Width = codes "Width"
+name_of entry.Height = codes "Height"
+name_of entry.Thresholds = codes "Thresholds"
+
+-- looks at an entry
+abbrev pub look_at : {A : Type 0} → Cell → Entry → (Option Object → Application A) → Application A
+look_at d e k = look_entry d (key.Name (name_of e)) k
 
 -- an integer
 abbrev pub integer_of : Kind → Result ℤ ErrorName
@@ -47,17 +60,17 @@ type_from n =
     if int_eq n (pos 1) then Ok type.Spot
     else (if int_eq n (pos 3) then Ok type.Threshold else Err RangeCheck)
 
--- a type under a name
-abbrev pub type_under : Cell → List ℕ → Application HalftoneType
-type_under d name =
-    look_entry d (key.Name name) (λ x.
+-- a type
+abbrev pub type_under : Cell → Entry → Application HalftoneType
+type_under d e =
+    look_at d e (λ x.
     read (integer_in x) (λ n.
     read (type_from n) found))
 
--- a width or a height under a name
-abbrev pub size_under : Cell → List ℕ → Application ℕ
-size_under d name =
-    look_entry d (key.Name name) (λ x.
+-- a width or a height
+abbrev pub size_under : Cell → Entry → Application ℕ
+size_under d e =
+    look_at d e (λ x.
     read (integer_in x) (λ n.
     read (size_from n) found))
 
@@ -75,18 +88,18 @@ abbrev pub string_in : Option Object → Result Interval ErrorName
 string_in None = Err RangeCheck
 string_in (Some x) = string_of x.access x.kind
 
--- a string under a name
-abbrev pub string_under : Cell → List ℕ → Application Interval
-string_under d name = look_entry d (key.Name name) (λ x. read (string_in x) found)
+-- the string of thresholds
+abbrev pub string_under : Cell → Entry → Application Interval
+string_under d e = look_at d e (λ x. read (string_in x) found)
 
 -- ---- thresholds
 
 -- those of a dictionary of type 3: the width, the height and a byte for each place
 abbrev pub table_in : Cell → Application Screen
 table_in d =
-    look_then (size_under d (codes "Width")) (λ width.
-    look_then (size_under d (codes "Height")) (λ height.
-    look_then (string_under d (codes "Thresholds")) (λ string.
+    look_then (size_under d entry.Width) (λ width.
+    look_then (size_under d entry.Height) (λ height.
+    look_then (string_under d entry.Thresholds) (λ string.
     read (sized (width * height) string) (λ _.
     look_then (bytes_of string) (λ bytes.
     found (screen width height bytes))))))
@@ -98,7 +111,7 @@ thresholds_by d type.Threshold = table_in d
 
 -- those of a halftone dictionary
 abbrev pub thresholds_in : Cell → Application Screen
-thresholds_in d = look_then (type_under d (codes "HalftoneType")) (thresholds_by d)
+thresholds_in d = look_then (type_under d entry.HalftoneType) (thresholds_by d)
 
 -- ---- operators
 

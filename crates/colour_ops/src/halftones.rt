@@ -5,15 +5,44 @@ ghost use Rattle.std.specs.Prelude.{◌≡◌, ◌<◌, ◌≤◌, length, true,
 ghost use Rattle.ps_meaning.specs.Ready.{Ready};
 ghost use Rattle.ps_operator.specs.Owes.{Does, DoesAlone, Finds, Yields};
 ghost use Rattle.ps_operator.specs.Standing.{is_dict, is_string};
+ghost use Rattle.ps_objects.specs.declared.key.Key.TheVariants as key;
 ghost use Rattle.colour_ops.specs.Halftones as spec;
 
 use crate::glyphs::settable;
 use ps_kinds::{
-    Access, Cell, ErrorName, Interval, Key, Kind, Name, Object, Operands, Refusal, State,
+    Access, Cell, ErrorName, Interval, Key, Kind, Name, NoMemory, Object, Operands, Refusal, State,
     Thresholds,
 };
 use ps_operator::{Mem, bytes_of, look_access, look_entry};
 use std::alloc::Global;
+
+/// An entry of a halftone dictionary.
+#[derive(Clone, Copy)]
+pub(crate) enum Entry {
+    HalftoneType,
+    Width,
+    Height,
+    Thresholds,
+}
+
+#[tactic(auto, unfolding(crate::specs::Halftones::name_of))]
+fn name_of(entry: Entry) -> &'static [u8]
+    ensures name { result.now ≡ spec.name_of entry }
+    ensures short { length result.now ≤ 127 }
+{
+    match entry {
+        Entry::HalftoneType => b"HalftoneType",
+        Entry::Width => b"Width",
+        Entry::Height => b"Height",
+        Entry::Thresholds => b"Thresholds",
+    }
+}
+
+fn key_of(alloc: Global, entry: Entry) -> Result<Key, NoMemory>
+    ensures { IfOk result (λ k. k ≡ key.Name (spec.name_of entry)) }
+{
+    Ok(Key::Name(Name::from_bytes(alloc, name_of(entry))?))
+}
 
 /// A type of halftone dictionaries.
 #[derive(Clone, Copy)]
@@ -104,28 +133,26 @@ fn string_in(found: Option<Object>) -> Result<Interval, ErrorName>
 fn type_under<M: Mem>(
     alloc: Global,
     dict: Cell,
-    name: &[u8],
+    entry: Entry,
     mem: &mut M,
 ) -> Result<HalftoneType, Refusal>
-    requires name { length name.now ≤ 127 }
     requires dict { is_dict (M.log mem.old).view dict ≡ true }
     ensures view { OnOk result ((M.log mem.new).view ≡ (M.log mem.old).view) }
-    ensures told { Yields (spec.type_under dict name.now) (M.log mem.old) result (M.log mem.new) }
+    ensures told { Yields (spec.type_under dict entry) (M.log mem.old) result (M.log mem.new) }
 {
-    let key = Key::Name(Name::from_bytes(alloc, name)?);
+    let key = key_of(alloc, entry)?;
     let type_ = type_from(integer_in(look_entry(mem, dict, key)?)?)?;
     Ok(type_)
 }
 
 /// A width or a height: rangecheck.
-fn size_under<M: Mem>(alloc: Global, dict: Cell, name: &[u8], mem: &mut M) -> Result<u32, Refusal>
-    requires name { length name.now ≤ 127 }
+fn size_under<M: Mem>(alloc: Global, dict: Cell, entry: Entry, mem: &mut M) -> Result<u32, Refusal>
     requires dict { is_dict (M.log mem.old).view dict ≡ true }
     ensures view { OnOk result ((M.log mem.new).view ≡ (M.log mem.old).view) }
     ensures positive { IfOk result (λ size. 0 < size) }
-    ensures told { Yields (spec.size_under dict name.now) (M.log mem.old) result (M.log mem.new) }
+    ensures told { Yields (spec.size_under dict entry) (M.log mem.old) result (M.log mem.new) }
 {
-    let key = Key::Name(Name::from_bytes(alloc, name)?);
+    let key = key_of(alloc, entry)?;
     let size = size_from(integer_in(look_entry(mem, dict, key)?)?)?;
     Ok(size)
 }
@@ -136,18 +163,16 @@ fn string_under<M: Mem>(
     alloc: Global,
     state: &State,
     dict: Cell,
-    name: &[u8],
+    entry: Entry,
     mem: &mut M,
 ) -> Result<Interval, Refusal>
-    requires name { length name.now ≤ 127 }
     requires ready { Ready state.now (M.log mem.old).view }
     requires dict { is_dict (M.log mem.old).view dict ≡ true }
     ensures view { OnOk result ((M.log mem.new).view ≡ (M.log mem.old).view) }
     ensures string { IfOk result (λ string. is_string (M.log mem.new).view string ≡ true) }
-    ensures told { Yields (spec.string_under dict name.now) (M.log mem.old)
-        result (M.log mem.new) }
+    ensures told { Yields (spec.string_under dict entry) (M.log mem.old) result (M.log mem.new) }
 {
-    let key = Key::Name(Name::from_bytes(alloc, name)?);
+    let key = key_of(alloc, entry)?;
     let string = string_in(look_entry(mem, dict, key)?)?;
     Ok(string)
 }
@@ -164,9 +189,9 @@ fn table_in<M: Mem>(
     ensures view { OnOk result ((M.log mem.new).view ≡ (M.log mem.old).view) }
     ensures told { Yields (spec.table_in dict) (M.log mem.old) result (M.log mem.new) }
 {
-    let width = size_under(alloc, dict, b"Width", mem)?;
-    let height = size_under(alloc, dict, b"Height", mem)?;
-    let string = string_under(alloc, state, dict, b"Thresholds", mem)?;
+    let width = size_under(alloc, dict, Entry::Width, mem)?;
+    let height = size_under(alloc, dict, Entry::Height, mem)?;
+    let string = string_under(alloc, state, dict, Entry::Thresholds, mem)?;
     sized(u64::from(width) * u64::from(height), string)?;
     let bytes = bytes_of(alloc, string, mem)?;
     let table = Thresholds::new(alloc, width, height, bytes.as_slice())?;
@@ -185,7 +210,7 @@ fn thresholds_in<M: Mem>(
     ensures view { OnOk result ((M.log mem.new).view ≡ (M.log mem.old).view) }
     ensures told { Yields (spec.thresholds_in dict) (M.log mem.old) result (M.log mem.new) }
 {
-    match type_under(alloc, dict, b"HalftoneType", mem)? {
+    match type_under(alloc, dict, Entry::HalftoneType, mem)? {
         HalftoneType::Spot => Ok(Thresholds::none(alloc)),
         HalftoneType::Threshold => {
             let table = table_in(alloc, state, dict, mem)?;
