@@ -16,17 +16,17 @@ use Rattle.ps_kinds.specs.declared.graphics.Colour.{Colour}
 use Rattle.ps_kinds.specs.declared.graphics.Colour.TheVariants as colour
 use Rattle.ps_kinds.specs.declared.graphics.GState.{GState}
 use Rattle.ps_kinds.specs.declared.state.State.{State}
-use Rattle.ps_meaning.specs.Fits.{takes, FitsCell, FitsObject}
+use Rattle.ps_meaning.specs.Fits.{takes, FitsCell}
 use Rattle.ps_meaning.specs.Ready.{Fits}
 use Rattle.ps_meaning.specs.Registers.{FitsState}
-use Rattle.ps_meaning.specs.Sound.{Size, World}
+use Rattle.ps_meaning.specs.Sound.{World}
 use Rattle.ps_operator.specs.Budgets.{unit_room}
 use Rattle.ps_operator.specs.Keys.{bytes_of}
-use Rattle.ps_operator.specs.Lawful.{HasDict, HasItems, HasBytes, FitsOption, Keeps, IsLawful}
+use Rattle.ps_operator.specs.Lawful.{HasDict, HasBytes, FitsOption, Keeps, IsLawful}
 use Rattle.ps_operator.specs.Making.{next_cell}
 use Rattle.ps_operator.specs.Operators.{AreLawful}
 use Rattle.ps_operator.specs.Registers.{ops, literal}
-use Rattle.ps_operator.specs.Tree.{Ask, found}
+use Rattle.ps_operator.specs.Tree.{Ask}
 use Rattle.ps_operator.proofs.Ending.{registers_keeps}
 use Rattle.ps_operator.proofs.Fitting.{Fit, drop_fits, object_fits, dict_fits, array_fits, string_kind}
 use Rattle.ps_operator.proofs.Growing.{new_here, room_kept, made_leaves, new_fits}
@@ -37,9 +37,9 @@ use Rattle.real_operands.specs.Reals.{real_at}
 use Rattle.colour_ops.specs.Colours.{gray_of, rgb_of, cmyk_of, cut}
 use Rattle.colour_ops.specs.Glyphs.{settable}
 use Rattle.colour_ops.specs.Setting.{sets, paints, real, setgray, currentgray, setrgbcolor, pushes_rgb, currentrgbcolor, setcmykcolor, pushes_cmyk, currentcmykcolor, by_space, setcolor, currentcolor}
-use Rattle.colour_ops.specs.Spaces.{space_of, first_colour, item_colour, is_space, one_item, colour_in, setcolorspace, next_one, currentcolorspace}
+use Rattle.colour_ops.specs.Spaces.{first_colour, item_colour, is_space, one_item, colour_in, setcolorspace, next_one, currentcolorspace}
 use Rattle.colour_ops.specs.Screens.{setscreen, currentscreen, settransfer, currenttransfer}
-use Rattle.colour_ops.specs.Halftones.{integer_in, size_from, type_from, type_under, size_under, sized, string_of, string_in, string_under, table_in, thresholds_by, thresholds_in, sethalftone, currenthalftone}
+use Rattle.colour_ops.specs.Halftones.{integer_in, size_from, type_from, type_under, size_under, sized, string_in, string_under, table_in, thresholds_by, thresholds_in, sethalftone, currenthalftone}
 use Rattle.colour_ops.specs.declared.halftones.Entry.{Entry}
 use Rattle.colour_ops.specs.declared.halftones.Entry.TheVariants as entry
 use Rattle.colour_ops.specs.declared.halftones.HalftoneType.{HalftoneType}

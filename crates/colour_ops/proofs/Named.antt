@@ -1,5 +1,5 @@
 -- A string that is found in a dictionary of a sound memory stands.
-use Rattle.std.proofs.Common.{◌≡◌, true, Option, Some, None, Result, Ok, Err, subst, sym, ap, ◌∙◌}
+use Rattle.std.proofs.Common.{◌≡◌, true, Option, Some, None, Ok, subst, sym, ap, ◌∙◌}
 use Rattle.ps_objects.specs.declared.access.Access.{Access}
 use Rattle.ps_objects.specs.declared.access.Access.TheVariants.{Unlimited, ReadOnly, ExecuteOnly, NoAccess}
 use Rattle.ps_objects.specs.declared.cell.Cell.{Cell}

@@ -5,7 +5,9 @@ ghost use Rattle.colour_ops.specs.Setting as spec;
 
 use crate::colours::{cmyk_of, cut, gray_of, rgb_of};
 use crate::glyphs::settable;
-use ps_kinds::{Colour, Component, Kind, NoMemory, Object, Objects, Operands, Real, Refusal, State};
+use ps_kinds::{
+    Colour, Component, Kind, NoMemory, Object, Objects, Operands, Real, Refusal, State,
+};
 use ps_operator::literal;
 use real_operands::real_at;
 

@@ -112,10 +112,7 @@ pub(crate) fn setcolorspace<M: Mem>(state: &mut State, mem: &mut M) -> Result<()
 fn space_name(alloc: Global, colour: Colour) -> Result<Object, NoMemory>
     ensures { IfOk result (λ x. x ≡ literal (kind.Name (spec.space_of colour))) }
 {
-    Ok(literal(Kind::Name(Name::from_bytes(
-        alloc,
-        space_of(colour),
-    )?)))
+    Ok(literal(Kind::Name(Name::from_bytes(alloc, space_of(colour))?)))
 }
 
 /// The array of the next cell, with one item.

@@ -1,4 +1,4 @@
-use Rattle.std.proofs.Common.{◌≡◌, sym, ◌∙◌}
+use Rattle.std.proofs.Common.{sym, ◌∙◌}
 use Rattle.ps_operator.proofs.StoreSteps.{any_miss}
 use Rattle.colour_ops.specs.Glyphs.{shows_mask}
 use Rattle.colour_ops.proofs.glyphs.any_mask.Goals as goal

@@ -1,4 +1,4 @@
-use Rattle.std.proofs.Common.{◌≡◌, sym, ap}
+use Rattle.std.proofs.Common.{sym, ap}
 use Rattle.ps_meaning.specs.Answer.{Log}
 use Rattle.colour_ops.proofs.Named.{string_named}
 use Rattle.colour_ops.proofs.halftones.string_under.Goals as goal
