@@ -114,8 +114,76 @@ fn has_reals(state: &State, counts: &[i64]) -> bool {
 }
 
 #[test]
-fn colours_of_other_spaces(rt: HostRuntime) -> Result<(), Fail> {
+fn colours_have_a_gray(rt: HostRuntime) -> Result<(), Fail> {
     colour_ops_lawful();
-    assert!(rt; gray_of(Colour::Gray(Component::new(ZERO))).real() == ZERO);
+    let none = Component::new(ZERO);
+    let quarter = Component::new(Real { count: ONE / 4 });
+    let half = Component::new(Real { count: ONE / 2 });
+    let full = Component::new(Real { count: ONE });
+    assert!(rt; gray_of(Colour::Gray(half)) == half);
+    assert!(rt; gray_of(Colour::Rgb(full, none, none)).real().count == 5_033_165);
+    assert!(rt; gray_of(Colour::Rgb(none, full, none)).real().count == 9_898_557);
+    assert!(rt; gray_of(Colour::Rgb(none, none, full)).real().count == 1_845_494);
+    assert!(rt; gray_of(Colour::Rgb(full, full, full)) == full);
+    assert!(rt;
+        gray_of(Colour::Cmyk(half, none, none, quarter))
+            .real()
+            .count
+            == 10_066_330
+    );
+    assert!(rt; gray_of(Colour::Cmyk(full, full, none, half)) == none);
+    Ok(())
+}
+
+#[test]
+fn colours_are_set_and_told(rt: HostRuntime) -> Result<(), Fail> {
+    let mut state = with_reals(&rt, &[2 * ONE, ONE / 2, -1])?;
+    setrgbcolor(&mut state)?;
+    currentrgbcolor(&mut state)?;
+    assert!(rt; has_reals(&state, &[ONE, ONE / 2, 0]));
+    setcolor(&mut state)?;
+    currentcmykcolor(&mut state)?;
+    assert!(rt; has_reals(&state, &[0, ONE / 2, ONE, 0]));
+    setcmykcolor(&mut state)?;
+    currentcolor(&mut state)?;
+    assert!(rt; has_reals(&state, &[0, ONE / 2, ONE, 0]));
+    state.regs.operands.shrink(4);
+    currentgray(&mut state)?;
+    setgray(&mut state)?;
+    currentgray(&mut state)?;
+    assert!(rt; has_reals(&state, &[9_982_444]));
+    assert!(rt; belongs(Op::at(168), &state));
+    assert!(rt; !belongs(Op::at(174), &state));
+    Ok(())
+}
+
+#[test]
+fn screens_are_kept(rt: HostRuntime) -> Result<(), Fail> {
+    let mut state = with_reals(&rt, &[60 * ONE, 45 * ONE])?;
+    assert!(rt; setscreen(&mut state) == Err(Refusal::Error(ErrorName::StackUnderflow)));
+    let cell = Cell {
+        section: 0,
+        count: 10,
+        space: Space::Local,
+    };
+    let interval = Interval {
+        cell,
+        start: 0,
+        len: 0,
+    };
+    let procedure = Kind::Array {
+        interval,
+        packed: false,
+    };
+    state.regs.operands.push(object(procedure, true))?;
+    setscreen(&mut state)?;
+    currentscreen(&mut state)?;
+    assert!(rt; state.regs.operands.len() == 3);
+    settransfer(&mut state)?;
+    assert!(rt; has_reals(&state, &[60 * ONE, 45 * ONE]));
+    currenttransfer(&mut state)?;
+    settransfer(&mut state)?;
+    currenthalftone(&mut state)?;
+    assert!(rt; settransfer(&mut state) == Err(Refusal::Error(ErrorName::TypeCheck)));
     Ok(())
 }
