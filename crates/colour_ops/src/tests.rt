@@ -135,32 +135,38 @@ fn colours_have_a_gray(rt: HostRuntime) -> Result<(), Fail> {
     Ok(())
 }
 
-#[test]
-fn colours_are_set_and_told(rt: HostRuntime) -> Result<(), Fail> {
-    let mut state = with_reals(&rt, &[2 * ONE, ONE / 2, -1])?;
-    setrgbcolor(&mut state)?;
-    currentrgbcolor(&mut state)?;
-    assert!(rt; has_reals(&state, &[ONE, ONE / 2, 0]));
-    setcolor(&mut state)?;
-    currentcmykcolor(&mut state)?;
-    assert!(rt; has_reals(&state, &[0, ONE / 2, ONE, 0]));
-    setcmykcolor(&mut state)?;
-    currentcolor(&mut state)?;
-    assert!(rt; has_reals(&state, &[0, ONE / 2, ONE, 0]));
-    state.regs.operands.shrink(4);
-    currentgray(&mut state)?;
-    setgray(&mut state)?;
-    currentgray(&mut state)?;
-    assert!(rt; has_reals(&state, &[9_982_444]));
-    assert!(rt; belongs(Op::at(168), &state));
-    assert!(rt; !belongs(Op::at(174), &state));
-    Ok(())
+// What is asked of a state. Each test holds few values, since it may end at each of its steps, and lets go of them there.
+
+/// Colours that are set in one space and told in others.
+fn are_told(state: &mut State) -> Result<bool, Refusal> {
+    setrgbcolor(state)?;
+    currentrgbcolor(state)?;
+    let cut = has_reals(state, &[ONE, ONE / 2, 0]);
+    setcolor(state)?;
+    currentcmykcolor(state)?;
+    let inks = has_reals(state, &[0, ONE / 2, ONE, 0]);
+    setcmykcolor(state)?;
+    currentgray(state)?;
+    let gray = has_reals(state, &[9_982_444]);
+    setgray(state)?;
+    currentcolor(state)?;
+    Ok(cut && inks && gray && has_reals(state, &[9_982_444]))
 }
 
-#[test]
-fn screens_are_kept(rt: HostRuntime) -> Result<(), Fail> {
-    let mut state = with_reals(&rt, &[60 * ONE, 45 * ONE])?;
-    assert!(rt; setscreen(&mut state) == Err(Refusal::Error(ErrorName::StackUnderflow)));
+/// A screen and a transfer function that are set and told.
+fn are_kept(state: &mut State, procedure: Object) -> Result<bool, Refusal> {
+    state.regs.operands.push(procedure)?;
+    setscreen(state)?;
+    currentscreen(state)?;
+    settransfer(state)?;
+    let screen = has_reals(state, &[60 * ONE, 45 * ONE]);
+    currenttransfer(state)?;
+    settransfer(state)?;
+    currenthalftone(state)?;
+    Ok(screen && settransfer(state) == Err(Refusal::Error(ErrorName::TypeCheck)))
+}
+
+fn procedure() -> Object {
     let cell = Cell {
         section: 0,
         count: 10,
@@ -171,19 +177,33 @@ fn screens_are_kept(rt: HostRuntime) -> Result<(), Fail> {
         start: 0,
         len: 0,
     };
-    let procedure = Kind::Array {
-        interval,
-        packed: false,
-    };
-    state.regs.operands.push(object(procedure, true))?;
-    setscreen(&mut state)?;
-    currentscreen(&mut state)?;
-    assert!(rt; state.regs.operands.len() == 3);
-    settransfer(&mut state)?;
-    assert!(rt; has_reals(&state, &[60 * ONE, 45 * ONE]));
-    currenttransfer(&mut state)?;
-    settransfer(&mut state)?;
-    currenthalftone(&mut state)?;
-    assert!(rt; settransfer(&mut state) == Err(Refusal::Error(ErrorName::TypeCheck)));
+    object(
+        Kind::Array {
+            interval,
+            packed: false,
+        },
+        true,
+    )
+}
+
+#[test]
+fn colours_are_set_and_told(rt: HostRuntime) -> Result<(), Fail> {
+    let told = are_told(&mut with_reals(&rt, &[2 * ONE, ONE / 2, -1])?)?;
+    assert!(rt; told);
+    Ok(())
+}
+
+#[test]
+fn screens_are_kept(rt: HostRuntime) -> Result<(), Fail> {
+    let kept = are_kept(&mut with_reals(&rt, &[60 * ONE, 45 * ONE])?, procedure())?;
+    assert!(rt; kept);
+    Ok(())
+}
+
+#[test]
+fn places_are_told(rt: HostRuntime) -> Result<(), Fail> {
+    let state = running(&rt, Objects::new(rt.alloc()));
+    let told = belongs(Op::at(168), &state) && !belongs(Op::at(174), &state);
+    assert!(rt; told);
     Ok(())
 }
