@@ -1,0 +1,4 @@
+pub mod Filling
+pub mod Going
+pub mod Keeping
+pub mod Looking
