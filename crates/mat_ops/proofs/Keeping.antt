@@ -99,10 +99,10 @@ concat_keeps text s W f =
 
 -- numbers fit each memory, and may lie in each cell
 items_fit : (K : Shapes) (m : Matrix) → Fit K (items m)
-items_fit K m = (tt, tt, tt, tt, tt, tt, tt)
+items_fit K m = (tt, (tt, (tt, (tt, (tt, (tt, tt))))))
 
 items_shared : (a : Interval) (m : Matrix) → AreShared a (items m)
-items_shared a m = ((λ _. refl), (λ _. refl), (λ _. refl), (λ _. refl), (λ _. refl), (λ _. refl), tt)
+items_shared a m = ((λ _. refl), ((λ _. refl), ((λ _. refl), ((λ _. refl), ((λ _. refl), ((λ _. refl), tt))))))
 
 within_six : (n : ℕ) → n ≡ 6 → 0 + 6 ≤ n
 within_six n e = omega (arith, e)
@@ -222,7 +222,7 @@ changes_keeps : (k : Motion) → IsLawful (changes k)
 changes_keeps k text s W f = either_keeps (is_array_at 0 (ops s)) (fills_with_keeps k text s W f) (moves_keeps k text s W f)
 
 point_keeps : {text : List ℕ} {s : State} {W : World} → Fits text W s → (n : ℕ) (p : Real × Real) → Keeps text 4 s.frames (leaves_point s n p) s W
-point_keeps {s = s} {W = W} f n p = leaves_keeps f (item p.1 ∷ item p.0 ∷ drop n (ops s)) (tt, tt, drop_fits W.shapes n (ops s) f.state.registers.operands)
+point_keeps {s = s} {W = W} f n p = leaves_keeps f (item p.1 ∷ item p.0 ∷ drop n (ops s)) (tt, (tt, drop_fits W.shapes n (ops s) f.state.registers.operands))
 
 by_current_keeps : (w : Way) → IsLawful (by_current w)
 by_current_keeps w text s W f =

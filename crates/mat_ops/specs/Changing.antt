@@ -24,14 +24,14 @@ is_array_at depth xs = elim (array_at depth xs) [ Ok a ↦ true | Err e ↦ fals
 abbrev pub either : (State → Ask) → (State → Ask) → State → Ask
 either t u s = cond (is_array_at 0 (ops s)) (t s) (u s)
 
--- how many numbers a motion takes
-abbrev pub numbers : Motion → ℕ
+-- how many numbers a motion takes; no operator's proof opens this
+unfoldable pub numbers : Motion → ℕ
 numbers Translation = 2
 numbers Scaling = 2
 numbers Rotation = 1
 
--- the matrix of a motion by the numbers from that depth on
-abbrev pub motion_at : Motion → ℕ → List Object → Result Matrix ErrorName
+-- the matrix of a motion by the numbers from that depth on; no operator's proof opens this
+unfoldable pub motion_at : Motion → ℕ → List Object → Result Matrix ErrorName
 motion_at Translation depth xs = elim (point_at depth xs) [ Err e ↦ Err e | Ok p ↦ Ok (translation p.0 p.1) ]
 motion_at Scaling depth xs = elim (point_at depth xs) [ Err e ↦ Err e | Ok p ↦ Ok (scaling p.0 p.1) ]
 motion_at Rotation depth xs = elim (real_at depth xs) [ Err e ↦ Err e | Ok r ↦ Ok (rotation r) ]

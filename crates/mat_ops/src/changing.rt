@@ -29,6 +29,7 @@ pub(crate) fn is_array_at(operands: &Objects, depth: usize) -> bool
 }
 
 /// How many numbers a motion takes.
+#[tactic(auto, unfolding(crate::specs::Changing::numbers))]
 fn numbers(motion: Motion) -> usize
     ensures value { result ≡ spec.numbers motion }
     ensures few { result ≤ 2 }
@@ -40,6 +41,7 @@ fn numbers(motion: Motion) -> usize
 }
 
 /// The matrix of a motion by the numbers from that depth on: stackunderflow, typecheck.
+#[tactic(auto, unfolding(crate::specs::Changing::motion_at))]
 fn motion_at(motion: Motion, operands: &Objects, depth: usize) -> Result<Matrix, ErrorName>
     requires { depth ≤ 1 }
     ensures { result ≡ spec.motion_at motion depth operands.now }
