@@ -42,7 +42,7 @@ fn numbers(motion: Motion) -> usize
 
 /// The matrix of a motion by the numbers from that depth on: stackunderflow, typecheck.
 #[tactic(auto, unfolding(crate::specs::Changing::motion_at))]
-fn motion_at(motion: Motion, operands: &Objects, depth: usize) -> Result<Matrix, ErrorName>
+pub(crate) fn motion_at(motion: Motion, operands: &Objects, depth: usize) -> Result<Matrix, ErrorName>
     requires { depth ≤ 1 }
     ensures { result ≡ spec.motion_at motion depth operands.now }
 {

@@ -67,7 +67,7 @@ fn turned_by(items: &[Object], a: Real, b: Real) -> Result<Matrix, ErrorName>
 }
 
 /// The matrix that six items tell: typecheck.
-fn matrix_of(items: &[Object]) -> Result<Matrix, ErrorName>
+pub(crate) fn matrix_of(items: &[Object]) -> Result<Matrix, ErrorName>
     ensures { result ≡ spec.matrix_of items.now }
 {
     let a = entry_at(items, 0)?;
