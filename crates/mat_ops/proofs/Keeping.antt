@@ -34,7 +34,7 @@ use Rattle.ps_operator.proofs.Storing.{AreShared, items_change, whole_lies}
 use Rattle.real_operands.specs.Points.{point_at}
 use Rattle.real_operands.specs.Reals.{defined}
 use Rattle.mat_ops.specs.Matrices.{six, matrix_of, matrix_in, item, items, matrix_stores, identity}
-use Rattle.mat_ops.specs.Current.{current, default_of, with_matrix, becomes, setmatrix, initmatrix, concat}
+use Rattle.mat_ops.specs.Current.{current, default_of, before_current, with_matrix, becomes, setmatrix, initmatrix, concat}
 use Rattle.mat_ops.specs.Arrays.{next_six, array_of, matrix, fills, identmatrix, defaultmatrix, currentmatrix, filled, concatmatrix, invertmatrix}
 use Rattle.mat_ops.specs.Changing.{is_array_at, either, numbers, motion_at, moves, fills_with, changes, translate, scale, rotate}
 use Rattle.mat_ops.specs.Carrying.{carried, leaves_point, by_current, by_array, carries, transform, dtransform, itransform, idtransform}
@@ -92,7 +92,7 @@ concat_keeps text s W f =
     read_keeps (readable_at 0 (ops s)) (λ _ _.
     read_keeps (six a) (λ _ _.
     seeking_keeps Any (matrix_in a) (matrix_seeks a (array_fits W.shapes (ops s) 0 a o e)) (λ m _.
-    read_keeps (defined (matrix_product m (current s))) (λ p _.
+    read_keeps (before_current m s) (λ p _.
     becomes_keeps f 1 p))))))
 
 -- ---- arrays that are filled
@@ -204,7 +204,7 @@ moves_keeps : (k : Motion) → IsLawful (moves k)
 moves_keeps k text s W f =
     read_keeps (needed (numbers k) (ops s)) (λ _ _.
     read_keeps (motion_at k 0 (ops s)) (λ m _.
-    read_keeps (defined (matrix_product m (current s))) (λ p _.
+    read_keeps (before_current m s) (λ p _.
     becomes_keeps f (numbers k) p)))
 
 fills_with_keeps : (k : Motion) → IsLawful (fills_with k)

@@ -1,7 +1,6 @@
 -- Translations, scalings and rotations, of the current matrix or into an array (section 4.3.2 of the language manual).
 use Rattle.std.specs.Prelude.{ℕ, ◌+◌, Bool, true, false, cond, List, Result, Ok, Err}
 use Rattle.ps_shapes.specs.declared.numbers.Matrix.{Matrix}
-use Rattle.ps_fixed.specs.Matrices.{matrix_product}
 use Rattle.ps_names.specs.declared.error_name.ErrorName.{ErrorName}
 use Rattle.ps_objects.specs.Operands.{needed, object_at, array_at, writable_at}
 use Rattle.ps_objects.specs.declared.object.Object.{Object}
@@ -9,9 +8,9 @@ use Rattle.ps_kinds.specs.declared.state.State.{State}
 use Rattle.ps_operator.specs.Registers.{ops}
 use Rattle.ps_operator.specs.Tree.{Ask, read}
 use Rattle.real_operands.specs.Points.{point_at}
-use Rattle.real_operands.specs.Reals.{defined, real_at}
+use Rattle.real_operands.specs.Reals.{real_at}
 use Rattle.mat_ops.specs.Matrices.{six, translation, scaling, rotation}
-use Rattle.mat_ops.specs.Current.{current, becomes}
+use Rattle.mat_ops.specs.Current.{before_current, becomes}
 use Rattle.mat_ops.specs.Arrays.{filled}
 use Rattle.mat_ops.specs.declared.changing.Motion.{Motion}
 use Rattle.mat_ops.specs.declared.changing.Motion.TheVariants.{Translation, Scaling, Rotation}
@@ -41,7 +40,7 @@ abbrev pub moves : Motion → State → Ask
 moves k s =
     read (needed (numbers k) (ops s)) (λ _.
     read (motion_at k 0 (ops s)) (λ m.
-    read (defined (matrix_product m (current s))) (λ p.
+    read (before_current m s) (λ p.
     becomes s (numbers k) p)))
 
 -- numbers M: the array is filled with the motion's matrix

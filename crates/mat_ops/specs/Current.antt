@@ -1,7 +1,8 @@
 -- The current transformation matrix (section 4.3.2 of the language manual).
-use Rattle.std.specs.Prelude.{ℕ, [], drop}
+use Rattle.std.specs.Prelude.{ℕ, [], drop, Result}
 use Rattle.ps_shapes.specs.declared.numbers.Matrix.{Matrix}
 use Rattle.ps_fixed.specs.Matrices.{matrix_product}
+use Rattle.ps_names.specs.declared.error_name.ErrorName.{ErrorName}
 use Rattle.ps_objects.specs.Operands.{needed, array_at, readable_at}
 use Rattle.ps_kinds.specs.declared.graphics.GState.{GState}
 use Rattle.ps_kinds.specs.declared.state.State.{State}
@@ -19,6 +20,10 @@ current s = s.regs.state.ctm
 -- the default matrix of the page
 abbrev pub default_of : State → Matrix
 default_of s = default_matrix s.settings.dpi s.regs.state.high
+
+-- first a matrix, and then the current one; no operator's proof opens this
+unfoldable pub before_current : Matrix → State → Result Matrix ErrorName
+before_current m s = defined (matrix_product m (current s))
 
 -- with this current matrix; no operator's proof opens this
 unfoldable pub with_matrix : GState → Matrix → GState
@@ -55,5 +60,5 @@ concat s =
     read (readable_at 0 (ops s)) (λ _.
     read (six a) (λ _.
     look_then (matrix_in a) (λ m.
-    read (defined (matrix_product m (current s))) (λ p.
+    read (before_current m s) (λ p.
     becomes s 1 p))))))

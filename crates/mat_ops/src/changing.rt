@@ -6,12 +6,11 @@ ghost use Rattle.ps_meaning.specs.Ready.{Ready};
 ghost use Rattle.ps_operator.specs.Owes.{Does, DoesAlone};
 ghost use Rattle.mat_ops.specs.Changing as spec;
 
-use crate::current::set_matrix;
+use crate::current::{before_current, set_matrix};
 use crate::matrices::{rotation, scaling, six, store_matrix, translation};
-use ps_fixed::mat_mul;
 use ps_kinds::{ErrorName, Matrix, Objects, Operands, Refusal, State};
 use ps_operator::Mem;
-use real_operands::{defined, point_at, real_at};
+use real_operands::{point_at, real_at};
 
 /// What `translate`, `scale` and `rotate` do.
 #[derive(Clone, Copy)]
@@ -66,12 +65,12 @@ pub(crate) fn motion_at(motion: Motion, operands: &Objects, depth: usize) -> Res
 fn change_current(motion: Motion, state: &mut State) -> Result<(), Refusal>
     ensures { DoesAlone (spec.moves motion) state.old result state.new }
 {
-    let operands = &mut state.regs.operands;
+    let operands = &state.regs.operands;
     let count = numbers(motion);
     operands.need(count)?;
     let matrix = motion_at(motion, operands, 0)?;
-    let product = defined(mat_mul(&matrix, &state.regs.state.ctm))?;
-    operands.shrink(count);
+    let product = before_current(&matrix, state)?;
+    state.regs.operands.shrink(count);
     set_matrix(&mut state.regs.state, product);
     Ok(())
 }
