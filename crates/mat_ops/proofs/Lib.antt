@@ -1,3 +1,4 @@
+pub mod Concatenating
 pub mod Filling
 pub mod Going
 pub mod Keeping
