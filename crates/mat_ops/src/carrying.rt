@@ -24,7 +24,12 @@ pub(crate) enum Way {
 }
 
 /// (x, y) under a matrix or under its inverse. Undefined where a step leaves the range, or there is no inverse.
-pub(crate) fn carried(way: Way, matrix: &Matrix, x: Real, y: Real) -> Result<(Real, Real), Undefined>
+pub(crate) fn carried(
+    way: Way,
+    matrix: &Matrix,
+    x: Real,
+    y: Real,
+) -> Result<(Real, Real), Undefined>
     ensures { result ≡ spec.carried way matrix.now x y }
 {
     match way {

@@ -41,7 +41,11 @@ fn numbers(motion: Motion) -> usize
 
 /// The matrix of a motion by the numbers from that depth on: stackunderflow, typecheck.
 #[tactic(auto, unfolding(crate::specs::Changing::motion_at))]
-pub(crate) fn motion_at(motion: Motion, operands: &Objects, depth: usize) -> Result<Matrix, ErrorName>
+pub(crate) fn motion_at(
+    motion: Motion,
+    operands: &Objects,
+    depth: usize,
+) -> Result<Matrix, ErrorName>
     requires { depth ≤ 1 }
     ensures { result ≡ spec.motion_at motion depth operands.now }
 {
@@ -98,11 +102,7 @@ fn fill_array<M: Mem>(motion: Motion, state: &mut State, mem: &mut M) -> Result<
 
 /// What `translate`, `scale` and `rotate` do: the newest operand tells where.
 #[tactic(auto, using(crate::proofs::Going::does_first, crate::proofs::Going::does_second))]
-pub(crate) fn change<M: Mem>(
-    motion: Motion,
-    state: &mut State,
-    mem: &mut M,
-) -> Result<(), Refusal>
+pub(crate) fn change<M: Mem>(motion: Motion, state: &mut State, mem: &mut M) -> Result<(), Refusal>
     requires { Ready state.old (M.log mem.old).view }
     ensures { Does (spec.changes motion) state.old (M.log mem.old)
         result state.new (M.log mem.new) }

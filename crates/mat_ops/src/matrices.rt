@@ -8,9 +8,7 @@ ghost use Rattle.ps_operator.specs.Standing.{is_array};
 ghost use Rattle.mat_ops.specs.Matrices as spec;
 
 use ps_fixed::{cos, sin};
-use ps_kinds::{
-    ErrorName, Interval, Kind, Matrix, NoMemory, Number, ONE, Object, Real, Refusal,
-};
+use ps_kinds::{ErrorName, Interval, Kind, Matrix, NoMemory, Number, ONE, Object, Real, Refusal};
 use ps_operator::{Mem, items_of, literal, store_item};
 use real_operands::as_real;
 use std::alloc::Global;
