@@ -1,12 +1,12 @@
 -- Arrays of six items, and the stores of a matrix.
-use Rattle.std.proofs.Common.{◌≡◌, ℕ, ◌+◌, Bool, true, false, cond, nat_eq, List, [], ◌∷◌, Result, Ok, Err, refl, sym, ap, ◌∙◌, arith}
+use Rattle.std.proofs.Common.{◌≡◌, ℕ, Bool, true, false, cond, nat_eq, Result, Ok, Err, refl, ap, ◌∙◌, arith}
 use Rattle.ps_shapes.specs.declared.numbers.Matrix.{Matrix}
 use Rattle.ps_names.specs.declared.error_name.ErrorName.{ErrorName}
 use Rattle.ps_names.specs.declared.error_name.ErrorName.TheVariants.{RangeCheck}
 use Rattle.ps_objects.specs.declared.objects.Interval.{Interval}
 use Rattle.ps_meaning.specs.Answer.{Log, acted_in, changed_in}
 use Rattle.ps_operator.specs.Storing.{item_put, item_stores}
-use Rattle.mat_ops.specs.Matrices.{six, item, items, matrix_stores}
+use Rattle.mat_ops.specs.Matrices.{six, item, matrix_stores}
 
 six_by : (n : ℕ) (t : Bool) → nat_eq n 6 ≡ t → cond {A = Result (Unit {0}) ErrorName} t (Ok tt) (Err RangeCheck) ≡ Ok tt → n ≡ 6
 six_by n true p e = grind arith

@@ -1,5 +1,5 @@
 -- Operators that take one of two forms by their newest operand.
-use Rattle.std.proofs.Common.{◌≡◌, true, false, cond, sym, ap, subst, Result}
+use Rattle.std.proofs.Common.{◌≡◌, true, false, cond, sym, subst, Result}
 use Rattle.ps_objects.specs.declared.refusal.Refusal.{Refusal}
 use Rattle.ps_kinds.specs.declared.state.State.{State}
 use Rattle.ps_meaning.specs.Answer.{Log}

@@ -1,5 +1,5 @@
 -- Each operator keeps a state that fits: its tree again, with what fits beside each end.
-use Rattle.std.proofs.Common.{◌≡◌, ℕ, suc, ◌+◌, ◌<◌, ◌≤◌, Bool, true, false, cond, List, [], ◌∷◌, drop, refl, sym, ◌∙◌, subst, arith}
+use Rattle.std.proofs.Common.{◌≡◌, ℕ, suc, ◌+◌, ◌≤◌, Bool, true, false, cond, List, ◌∷◌, drop, refl, sym, ◌∙◌, subst, arith}
 use Rattle.ps_shapes.specs.declared.numbers.Matrix.{Matrix}
 use Rattle.ps_shapes.specs.declared.numbers.Real.{Real}
 use Rattle.ps_fixed.specs.Matrices.{matrix_product, inverse_of}
@@ -21,7 +21,7 @@ use Rattle.ps_operator.specs.Budgets.{unit_room}
 use Rattle.ps_operator.specs.Lawful.{HasItems, Leaves, Keeps, IsLawful}
 use Rattle.ps_operator.specs.Making.{next_cell}
 use Rattle.ps_operator.specs.Operators.{AreLawful}
-use Rattle.ps_operator.specs.Registers.{ops, with_ops, spent, quiet, leaves}
+use Rattle.ps_operator.specs.Registers.{ops, with_ops, spent, quiet}
 use Rattle.ps_operator.specs.Tree.{Ask}
 use Rattle.ps_operator.proofs.Ending.{registers_keeps}
 use Rattle.ps_operator.proofs.Fitting.{Fit, drop_fits, object_fits, array_fits}
@@ -35,9 +35,9 @@ use Rattle.real_operands.specs.Points.{point_at}
 use Rattle.real_operands.specs.Reals.{defined}
 use Rattle.mat_ops.specs.Matrices.{six, matrix_of, matrix_in, item, items, matrix_stores, identity}
 use Rattle.mat_ops.specs.Current.{current, default_of, before_current, with_matrix, becomes, setmatrix, initmatrix, concat}
-use Rattle.mat_ops.specs.Arrays.{next_six, array_of, matrix, fills, identmatrix, defaultmatrix, currentmatrix, filled, concatmatrix, invertmatrix}
-use Rattle.mat_ops.specs.Changing.{is_array_at, either, numbers, motion_at, moves, fills_with, changes, translate, scale, rotate}
-use Rattle.mat_ops.specs.Carrying.{carried, leaves_point, by_current, by_array, carries, transform, dtransform, itransform, idtransform}
+use Rattle.mat_ops.specs.Arrays.{next_six, array_of, matrix, fills, identmatrix, defaultmatrix, currentmatrix, concatmatrix, invertmatrix}
+use Rattle.mat_ops.specs.Changing.{is_array_at, numbers, motion_at, moves, fills_with, changes}
+use Rattle.mat_ops.specs.Carrying.{carried, leaves_point, by_current, by_array, carries}
 use Rattle.mat_ops.specs.Operators.{operators, run}
 use Rattle.mat_ops.specs.declared.carrying.Way.{Way}
 use Rattle.mat_ops.specs.declared.carrying.Way.TheVariants as way

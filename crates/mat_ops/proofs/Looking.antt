@@ -1,8 +1,7 @@
 -- To look at all items of an array is lawful.
-use Rattle.std.proofs.Common.{◌≡◌, ℕ, zero, suc, ◌+◌, ◌<◌, ◌≤◌, true, List, [], ◌∷◌, ◌++◌, Some, arith}
+use Rattle.std.proofs.Common.{◌≡◌, ℕ, zero, suc, ◌+◌, ◌<◌, true, List, [], ◌∷◌, ◌++◌, Some, arith}
 use Rattle.ps_objects.specs.declared.object.Object.{Object}
 use Rattle.ps_objects.specs.declared.objects.Interval.{Interval}
-use Rattle.ps_objects.specs.declared.place.Loc.TheVariants as loc
 use Rattle.ps_objects.specs.declared.place.Shape.TheVariants as shape
 use Rattle.ps_objects.specs.declared.place.Value.{Value}
 use Rattle.ps_objects.specs.declared.place.Value.TheVariants as value

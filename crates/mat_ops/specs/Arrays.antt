@@ -1,5 +1,5 @@
 -- Arrays that are filled with matrices (section 8.2 of the language manual).
-use Rattle.std.specs.Prelude.{ℕ, ◌+◌, false, ◌∷◌, drop}
+use Rattle.std.specs.Prelude.{ℕ, false, ◌∷◌, drop}
 use Rattle.ps_shapes.specs.declared.numbers.Matrix.{Matrix}
 use Rattle.ps_fixed.specs.Matrices.{matrix_product, inverse_of}
 use Rattle.ps_objects.specs.Object.{whole_of}

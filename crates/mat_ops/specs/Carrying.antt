@@ -1,5 +1,5 @@
 -- Points and distances under a matrix and under its inverse (section 4.3.2 of the language manual).
-use Rattle.std.specs.Prelude.{ℕ, ◌∷◌, drop, Result, Ok, Err}
+use Rattle.std.specs.Prelude.{ℕ, ◌∷◌, drop, Result}
 use Rattle.ps_shapes.specs.declared.numbers.Matrix.{Matrix}
 use Rattle.ps_shapes.specs.declared.numbers.Real.{Real}
 use Rattle.ps_fixed.specs.declared.rounding.Undefined.{Undefined}

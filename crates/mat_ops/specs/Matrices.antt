@@ -1,5 +1,5 @@
 -- Matrices as arrays of six numbers (section 4.3.3 of the language manual).
-use Rattle.std.specs.Prelude.{ℕ, nat_eq, neg_ℤ, ℤ, pos, if◌then◌else◌, List, [], ◌∷◌, slice_get, Some, None, Result, Ok, Err}
+use Rattle.std.specs.Prelude.{ℕ, nat_eq, neg_ℤ, pos, if◌then◌else◌, List, [], ◌∷◌, slice_get, Some, None, Result, Ok, Err}
 use Rattle.ps_shapes.specs.declared.numbers.Matrix.{Matrix}
 use Rattle.ps_shapes.specs.declared.numbers.Real.{Real}
 use Rattle.ps_fixed.specs.Sines.{sine_of, cosine_of}
