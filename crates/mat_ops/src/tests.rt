@@ -51,8 +51,9 @@ fn matrices_are_read_and_made(rt: HostRuntime) -> Result<(), Fail> {
     }
     items.push(object(Kind::Real(whole(0))))?;
     assert!(rt; matrix_of(items.as_slice()) == Ok(quarter));
-    items.push(object(Kind::Null))?;
-    assert!(rt; matrix_of(&items[1..7]) == Err(ErrorName::TypeCheck));
+    let mut others = Vec::new(rt.alloc());
+    others.push(object(Kind::Null))?;
+    assert!(rt; matrix_of(others.as_slice()) == Err(ErrorName::TypeCheck));
     assert!(rt; six(interval(6)) == Ok(()));
     assert!(rt; six(interval(7)) == Err(ErrorName::RangeCheck));
     let mut operands = Objects::new(rt.alloc());
