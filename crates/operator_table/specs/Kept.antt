@@ -27,6 +27,9 @@ use Rattle.control_ops.proofs.Keeping as control_ops
 use Rattle.control_ops.proofs.StepKeeping as steps
 use Rattle.file_ops.proofs.Keeping as file_ops
 use Rattle.save_restore.proofs.Keeping as save_restore
+use Rattle.mat_ops.proofs.Keeping as mat_ops
+use Rattle.gstate.proofs.Keeping as gstate
+use Rattle.colour_ops.proofs.Keeping as colour_ops
 use Rattle.error_ops.proofs.Keeping as error_ops
 use Rattle.operator_table.specs.Operators.{on_container, Family, families, is_of, run_among, Walker, walkers, step_among, table}
 
@@ -51,31 +54,7 @@ container_keeps n text s W f =
 
 -- the law of each crate, in the order of the families
 families_keep : AllByRecursion IsKept families
-families_keep = (
-  λ n text. stack_arith.run_keeps n text,
-  (
-    λ n text. text_ops.run_keeps n text,
-    (
-      λ n text. container_keeps n text,
-      (
-        λ n text. array_ops.run_keeps n text,
-        (
-          λ n text. object_ops.run_keeps n text,
-          (
-            λ n text. control_ops.run_keeps n text,
-            (
-              λ n text. file_ops.run_keeps n text,
-              (
-                λ n text. save_restore.run_keeps n text,
-                (λ n text. error_ops.run_keeps n text, tt),
-              ),
-            ),
-          ),
-        ),
-      ),
-    ),
-  ),
-)
+families_keep = (λ n text. stack_arith.run_keeps n text, (λ n text. text_ops.run_keeps n text, (λ n text. container_keeps n text, (λ n text. array_ops.run_keeps n text, (λ n text. object_ops.run_keeps n text, (λ n text. control_ops.run_keeps n text, (λ n text. file_ops.run_keeps n text, (λ n text. save_restore.run_keeps n text, (λ n text. mat_ops.run_keeps n text, (λ n text. gstate.run_keeps n text, (λ n text. colour_ops.run_keeps n text, (λ n text. error_ops.run_keeps n text, tt))))))))))))
 
 -- ---- frames
 

@@ -19,6 +19,9 @@ use Rattle.control_ops.specs.Operators as control_ops
 use Rattle.control_ops.specs.Rounds as rounds
 use Rattle.file_ops.specs.Operators as file_ops
 use Rattle.save_restore.specs.Operators as save_restore
+use Rattle.mat_ops.specs.Operators as mat_ops
+use Rattle.gstate.specs.Operators as gstate
+use Rattle.colour_ops.specs.Operators as colour_ops
 use Rattle.error_ops.specs.Operators as error_ops
 
 -- ---- operators
@@ -46,6 +49,9 @@ families =
     ∷ record { first = at.EXEC; last = at.STOPPED; run = λ n text s. control_ops.run n s }
     ∷ record { first = at.CURRENTFILE; last = at.FLUSH; run = λ n text s. file_ops.run n text s }
     ∷ record { first = at.SAVE; last = at.USERTIME; run = λ n text s. save_restore.run n s }
+    ∷ record { first = at.MATRIX; last = at.IDTRANSFORM; run = λ n text s. mat_ops.run n s }
+    ∷ record { first = at.GSAVE; last = at.CURRENTDASH; run = λ n text s. gstate.run n s }
+    ∷ record { first = at.SETGRAY; last = at.CURRENTHALFTONE; run = λ n text s. colour_ops.run n s }
     ∷ record { first = at.FIRST_DEFAULT_ENTRY; last = at.OPERATOR_COUNT - 1; run = λ n text s. error_ops.run n s }
     ∷ []
 

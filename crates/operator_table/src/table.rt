@@ -2,7 +2,7 @@
 ghost use Rattle.std.specs.Prelude.{◌≡◌, true};
 ghost use Rattle.ps_meaning.specs.Ready.{ReadyIn};
 ghost use Rattle.ps_operator.specs.Owes.{Runs};
-ghost use Rattle.control_ops.specs.Rounds.{walks_in};
+ghost use Rattle.control_ops.specs.Rounds as rounds;
 ghost use Rattle.dict_ops.specs.Operators as dicts;
 ghost use Rattle.operator_table.specs.Operators.{on_container};
 
@@ -19,7 +19,7 @@ pub struct AllOperators;
 /// Whether the newest of these frames is one of the control operators.
 #[tactic(auto, using(crate::proofs::Walking::walks_first, crate::proofs::Walking::walks_none))]
 fn is_control(frames: &Frames) -> bool
-    ensures { result ≡ walks_in frames.now }
+    ensures { result ≡ rounds.walks_in frames.now }
 {
     !frames.is_empty() && control_ops::walks(frames.at(0))
 }
@@ -59,6 +59,9 @@ impl<M: Mem> Operators<M> for AllOperators {
             places::EXEC..=places::STOPPED => control_ops::run(op, text, state, mem),
             places::CURRENTFILE..=places::FLUSH => file_ops::run(op, text, state, mem),
             places::SAVE..=places::USERTIME => save_restore::run(op, text, state, mem),
+            places::MATRIX..=places::IDTRANSFORM => mat_ops::run(op, text, state, mem),
+            places::GSAVE..=places::CURRENTDASH => gstate::run(op, text, state, mem),
+            places::SETGRAY..=places::CURRENTHALFTONE => colour_ops::run(op, text, state, mem),
             places::FIRST_DEFAULT_ENTRY.. => error_ops::run(op, text, state, mem),
             _ => Ok(Act::Fail(ErrorName::Undefined)),
         }

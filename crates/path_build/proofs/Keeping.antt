@@ -25,7 +25,7 @@ use Rattle.path_build.specs.declared.arcs.Turn.TheVariants.{Up, Down}
 use Rattle.path_build.specs.Paths.{point_of, begun, point_room, move_room, with_segment, moved_to, closed}
 use Rattle.path_build.specs.Points.{user_point, curve_of, with_point}
 use Rattle.path_build.specs.Building.{path_of, ctm, draws, newpath, currentpoint, moveto, rmoveto, lineto, rlineto, curveto, curve_from, rcurveto, closepath}
-use Rattle.path_build.specs.Arcs.{way_of, turn_right, pieces_from, leading, arc_start, draws_arc, arc_of, arc_by, arc, arcn}
+use Rattle.path_build.specs.Arcs.{way_of, turn_right, pieces_from, leading, arc_start, draws_arc, arc_at, arc_by, arc, arcn}
 use Rattle.path_build.specs.Boxes.{device_box, user_box, pathbbox}
 use Rattle.path_build.specs.Walks.{walk_of, are_bodies, pathforall}
 use Rattle.path_build.specs.Operators.{operators, run}
@@ -132,14 +132,7 @@ closepath_keeps text s W f = draws_keeps text s W f 0 (closed (path_of s))
 -- ---- arcs
 
 arc_by_keeps : (turn : Turn) → IsLawful (arc_by turn)
-arc_by_keeps turn text s W f =
-    read_keeps (needed 5 (ops s)) (λ _ _.
-    read_keeps (real_at 0 (ops s)) (λ to _.
-    read_keeps (real_at 1 (ops s)) (λ from _.
-    read_keeps (real_at 2 (ops s)) (λ radius _.
-    read_keeps (point_at 3 (ops s)) (λ centre _.
-    read_keeps (turn_right (way_of turn from.count to.count)) (λ way _.
-    arc_keeps text s W f (arc_of centre radius from way)))))))
+arc_by_keeps turn text s W f = read_keeps (arc_at turn (ops s)) (λ c _. arc_keeps text s W f c)
 
 -- ---- the box
 

@@ -12,6 +12,7 @@ use Rattle.ps_fixed.specs.Arithmetic.{sum_of, difference_of, product_of, quotien
 use Rattle.ps_fixed.specs.Sines.{full_turn, quarter_turn, sine_of, cosine_of}
 use Rattle.ps_fixed.specs.declared.rounding.Undefined.{Undefined}
 use Rattle.ps_objects.specs.Operands.{needed}
+use Rattle.ps_objects.specs.declared.object.Object.{Object}
 use Rattle.ps_objects.specs.declared.refusal.Refusal.{Refusal}
 use Rattle.ps_objects.specs.declared.refusal.Refusal.TheVariants as refusal
 use Rattle.ps_kinds.specs.declared.state.State.{State}
@@ -160,16 +161,19 @@ draws_arc s c =
 abbrev pub arc_of : Real × Real → Real → Real → ℤ → Sweep
 arc_of centre radius first way = record { x = centre.0; y = centre.1; radius = radius; first = first; way = way; pieces = pieces_of way }
 
+-- the arc that the newest five operands tell
+abbrev pub arc_at : Turn → List Object → Result Sweep ErrorName
+arc_at turn xs =
+    going_on (needed 5 xs) (λ _.
+    going_on (real_at 0 xs) (λ to.
+    going_on (real_at 1 xs) (λ from.
+    going_on (real_at 2 xs) (λ radius.
+    going_on (point_at 3 xs) (λ centre.
+    going_on (turn_right (way_of turn from.count to.count)) (λ way. Ok (arc_of centre radius from way)))))))
+
 -- an arc that turns up or down
 abbrev pub arc_by : Turn → State → Ask
-arc_by turn s =
-    read (needed 5 (ops s)) (λ _.
-    read (real_at 0 (ops s)) (λ to.
-    read (real_at 1 (ops s)) (λ from.
-    read (real_at 2 (ops s)) (λ radius.
-    read (point_at 3 (ops s)) (λ centre.
-    read (turn_right (way_of turn from.count to.count)) (λ way.
-    draws_arc s (arc_of centre radius from way)))))))
+arc_by turn s = read (arc_at turn (ops s)) (λ arc. draws_arc s arc)
 
 -- n n n n n arc: from one angle up to another
 abbrev pub arc : State → Ask

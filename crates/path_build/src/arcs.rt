@@ -9,7 +9,7 @@ use crate::paths::point_room;
 use crate::points::curve_of;
 use ps_fixed::{Undefined, add, cos, div, mul, sin, sub};
 use ps_kinds::{
-    DevicePoint, ErrorName, Matrix, NoMemory, Operands, Path, Real, Refusal, Segment, State,
+    DevicePoint, ErrorName, Matrix, NoMemory, Objects, Operands, Path, Real, Refusal, Segment, State,
 };
 use real_operands::{defined, placed, point_at, real_at};
 use std::alloc::Global;
@@ -299,24 +299,33 @@ fn draw(arc: &Sweep, state: &mut State) -> Result<(), Refusal>
     Ok(())
 }
 
-fn arc_by(turn: Turn, state: &mut State) -> Result<(), Refusal>
-    ensures { DoesAlone (spec.arc_by turn) state.old result state.new }
+/// The arc that the newest five operands tell: stackunderflow, typecheck, limitcheck.
+fn arc_at(turn: Turn, operands: &Objects) -> Result<Sweep, ErrorName>
+    ensures arc { result ≡ spec.arc_at turn operands.now }
+    ensures way { IfOk result (λ arc. unsigned_abs arc.way ≤ spec.farthest) }
+    ensures few { IfOk result (λ arc. arc.pieces ≤ 40) }
+    ensures operands { OnOk result (5 ≤ length operands.now) }
 {
-    let operands = &state.regs.operands;
     operands.need(5)?;
     let to = real_at(operands, 0)?;
     let from = real_at(operands, 1)?;
     let radius = real_at(operands, 2)?;
-    let (x, y) = point_at(operands, 3)?;
+    let centre = point_at(operands, 3)?;
     let way = turn_right(way_of(turn, from.count, to.count))?;
-    let arc = Sweep {
-        x,
-        y,
+    Ok(Sweep {
+        x: centre.0,
+        y: centre.1,
         radius,
         first: from,
         way,
         pieces: pieces_of(way),
-    };
+    })
+}
+
+fn arc_by(turn: Turn, state: &mut State) -> Result<(), Refusal>
+    ensures { DoesAlone (spec.arc_by turn) state.old result state.new }
+{
+    let arc = arc_at(turn, &state.regs.operands)?;
     draw(&arc, state)
 }
 

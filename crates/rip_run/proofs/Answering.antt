@@ -1,5 +1,5 @@
 -- What is written for a job, by the ways in which it is answered.
-use Rattle.std.proofs.Common.{◌≡◌, ◌≢◌, ℕ, ◌<◌, ◌≤◌, Bool, true, false, List, [], ◌++◌, length, Option, Some, None, refl, ap, sym, subst, ◌∙◌, append-nil, arith, true≢false}
+use Rattle.std.proofs.Common.{◌≡◌, ◌≢◌, ◌⊎◌, inl, inr, ℕ, ◌<◌, ◌≤◌, Bool, true, false, List, [], ◌++◌, length, Option, Some, None, Err, refl, ap, sym, subst, ◌∙◌, append-nil, arith, true≢false}
 use Rattle.std.specs.Prelude.{nat_lt, ◌||◌, option_map, IfSome, if◌then◌else◌, flat_map}
 use Rattle.std.proofs.lemmas.Bool.{lt-ltb}
 use Rattle.std.proofs.lemmas.Bool.Decides.{nat_tests}
@@ -7,13 +7,23 @@ use Rattle.ps_execution.specs.Section.{End, Through, Stopped, Quitted, OutOfTurn
 use Rattle.ps_execution.specs.Table.{Table}
 use Rattle.rip_ports.specs.Ports.{Appends, AppendsFront, Gives}
 use Rattle.dsc_split.specs.Sections.{page_count, sections_of}
+use Rattle.out_writers.specs.Texts.{pictures}
+use Rattle.out_writers.specs.Writing.{appended, front_appended, whole_appended, longer_appended}
+use Rattle.ps_memory.specs.Memory.{Memory}
+use Rattle.section_sequence.specs.Sequence.{Progress}
+use Rattle.job_run.specs.Sequence.{progress_of}
+use Rattle.job_run.specs.Runs.{Leaves, RunsJob}
+use Rattle.job_run.specs.declared.job.Final.{Final}
+use Rattle.job_run.specs.declared.job.JobFault.{JobFault}
+use Rattle.job_run.specs.declared.job.JobFault.TheVariants as fault
+use Rattle.command_words.specs.declared.command.Command.{Command}
+use Rattle.command_words.specs.declared.command.Command.TheVariants.{Plain, Split}
+use Rattle.command_words.specs.declared.command.PlainOptions.{PlainOptions}
 use Rattle.rip_run.specs.Answers.{Answers}
-use Rattle.rip_run.specs.Job.{JobResult, is_refused, is_too_large, is_too_many, progress_of, result_of_command, result_of_progress, result_of_read, result_of_sections, status_of, told}
+use Rattle.rip_run.specs.Job.{JobResult, is_refused, is_too_large, is_too_many, result_of_command, result_of_progress, result_of_read, result_of_sections, status_of, told}
 use Rattle.rip_run.specs.Reading.{IsAtEnd}
 use Rattle.rip_run.specs.Status.{IsDefined, IsRun, Writes}
-use Rattle.rip_run.specs.Texts.{section_line, too_large_line, too_many_line}
-use Rattle.rip_run.specs.declared.word.Command.{Command}
-use Rattle.rip_run.specs.declared.word.Command.TheVariants.{Plain, Split}
+use Rattle.rip_run.specs.Texts.{done_line, section_line, too_large_line, too_many_line}
 use Rattle.rip_run.specs.declared.status.Status.{Status}
 use Rattle.rip_run.specs.declared.status.Status.TheVariants as status
 
@@ -89,10 +99,73 @@ pub split_answers : (T : Table) (moment : ℕ) (job : List ℕ) (answer : Status
 split_answers T moment job answer p b c h w s =
     subst (λ r. Answers r answer p p b c) (sym (of_sections T Split moment job h)) (told_answers (flat_map section_line (sections_of job)) (status.Done 0) answer p b c w s)
 
-pub plain_answers : (T : Table) (moment : ℕ) (job : List ℕ) (answer : Status) (p q b c : Option (List ℕ))
-    → page_count (sections_of job) ≤ 100000 → Answers (result_of_progress (progress_of T moment job)) answer p q b c
-    → Answers (result_of_read T Plain moment job) answer p q b c
-plain_answers T moment job answer p q b c h a = subst (λ r. Answers r answer p q b c) (sym (of_sections T Plain moment job h)) a
+-- ---- a run in sequence
+
+-- an answer after a run is no fault of the source
+pub no_read_fault : (s : Status) → IsRun s → s ≢ status.ReadFault
+no_read_fault s r e = subst IsRun e r
+
+-- all that was appended, as an answer that isn't a fault of the source says it
+whole_written : (answer : Status) (text : List ℕ) (b c : Option (List ℕ)) → answer ≢ status.ReadFault → Appends text b c → Writes answer text b c
+whole_written (status.Done _) text b c n a = a
+whole_written (status.JobError _) text b c n a = a
+whole_written status.Usage text b c n a = a
+whole_written status.TooLarge text b c n a = a
+whole_written (status.TooManyPages _) text b c n a = a
+whole_written status.ReadFault text b c n a = absurd (n refl)
+whole_written status.WriteFault text b c n a = whole_appended text b c a
+whole_written status.NoMemory text b c n a = whole_appended text b c a
+
+-- and what was written after it
+written_then : (answer : Status) (text more : List ℕ) (b c d : Option (List ℕ)) → answer ≢ status.ReadFault → Appends text b c → Writes answer more c d → Writes answer (text ++ more) b d
+written_then (status.Done _) text more b c d n a w = appended text more b c d a w
+written_then (status.JobError _) text more b c d n a w = appended text more b c d a w
+written_then status.Usage text more b c d n a w = appended text more b c d a w
+written_then status.TooLarge text more b c d n a w = appended text more b c d a w
+written_then (status.TooManyPages _) text more b c d n a w = appended text more b c d a w
+written_then status.ReadFault text more b c d n a w = absurd (n refl)
+written_then status.WriteFault text more b c d n a w = front_appended text more b c d a w
+written_then status.NoMemory text more b c d n a w = front_appended text more b c d a w
+
+module _ (T : Table) (options : PlainOptions) (moment : ℕ) (job : List ℕ) (p q b d : Option (List ℕ)) where
+  abbrev P : Progress
+  P = progress_of T options.settings moment job
+
+  abbrev Plainly : Status → Type 0
+  Plainly answer = Answers (result_of_read T (Plain options) moment job) answer p q b d
+
+  -- the sections ran to their end, and then the closing line was written
+  pub closed_answers : {M : Type 0} (view : M → Memory) (left : Final M) (c : Option (List ℕ)) (answer : Status)
+      → (page_count (sections_of job) ≤ 100000) × Leaves view P left × Appends (pictures P.papers) p q × Appends P.text b c
+      → answer ≢ status.ReadFault → Writes answer (done_line left.shown) c d → (IsDefined answer → answer ≡ status_of P.end) → Plainly answer
+  closed_answers view left c answer h n w s =
+      subst (λ r. Answers r answer p q b d) (sym (of_sections T (Plain options) moment job h.0))
+      (record {
+        status = s;
+        pages = whole_written answer (pictures P.papers) p q n h.2;
+        back = written_then answer P.text (done_line (length P.papers)) b c d n h.3 (subst (λ k. Writes answer (done_line k) c d) h.1.shown w);
+      })
+
+  -- a sink failed while the sections ran
+  faulted : (page_count (sections_of job) ≤ 100000) × AppendsFront (pictures P.papers) p q × AppendsFront P.text b d → Plainly status.WriteFault
+  faulted h =
+      subst (λ r. Answers r status.WriteFault p q b d) (sym (of_sections T (Plain options) moment job h.0))
+      (record { status = λ x. absurd x; pages = h.1; back = longer_appended P.text (done_line (length P.papers)) b d h.2 })
+
+  -- memory ran out
+  starved : ((q ≡ p) × (d ≡ b)) ⊎ ((page_count (sections_of job) ≤ 100000) × AppendsFront (pictures P.papers) p q × AppendsFront P.text b d) → Plainly status.NoMemory
+  starved (inl h) =
+      subst (λ x. Answers (result_of_read T (Plain options) moment job) status.NoMemory p x b d) (sym h.0)
+      (subst (λ x. Answers (result_of_read T (Plain options) moment job) status.NoMemory p p b x) (sym h.1) (wanting_answers (result_of_read T (Plain options) moment job) p b))
+  starved (inr h) =
+      subst (λ r. Answers r status.NoMemory p q b d) (sym (of_sections T (Plain options) moment job h.0))
+      (record { status = λ x. absurd x; pages = h.1; back = longer_appended P.text (done_line (length P.papers)) b d h.2 })
+
+  pub faulty_answers : {M : Type 0} (view : M → Memory) (e : JobFault) → e ≡ fault.WriteFault → RunsJob view P job (Err e) p q b d → Plainly status.WriteFault
+  faulty_answers view e is h = faulted (subst (λ x. RunsJob view P job (Err x) p q b d) is h)
+
+  pub starved_answers : {M : Type 0} (view : M → Memory) (e : JobFault) → e ≡ fault.NoMemory → RunsJob view P job (Err e) p q b d → Plainly status.NoMemory
+  starved_answers view e is h = starved (subst (λ x. RunsJob view P job (Err x) p q b d) is h)
 
 -- ---- what was read
 
@@ -132,7 +205,7 @@ progress_runs Quitted = tt
 progress_runs OutOfTurns = tt
 
 sections_run : (T : Table) (command : Command) (moment : ℕ) (job : List ℕ) → IsRun (result_of_sections T command moment job).status
-sections_run T Plain moment job = progress_runs (progress_of T moment job).end
+sections_run T (Plain options) moment job = progress_runs (progress_of T options.settings moment job).end
 sections_run T Split moment job = tt
 
 -- a job that isn't refused is run

@@ -1,5 +1,5 @@
 mod Answering
 mod Giving
 mod Pieces
+mod Rising
 mod Sinks
-mod Progresses

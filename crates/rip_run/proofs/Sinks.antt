@@ -5,7 +5,7 @@ use Rattle.ps_execution.specs.Table.{Table}
 use Rattle.rip_run.specs.Answers.{Answers}
 use Rattle.rip_run.specs.Job.{JobResult, result_of_command, result_of_words}
 use Rattle.rip_run.specs.Status.{IsDefined, Writes}
-use Rattle.rip_run.specs.declared.word.Command.{Command}
+use Rattle.command_words.specs.declared.command.Command.{Command}
 use Rattle.rip_run.specs.declared.status.Status.{Status}
 
 pub words_answers : (T : Table) (words : Option Command) (command : Command) (moment : ℕ) (start : Option (List ℕ)) (answer : Status) (p q b c : Option (List ℕ))

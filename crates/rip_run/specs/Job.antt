@@ -1,16 +1,16 @@
 -- The result of a job: what is written for it, and how the call ends.
-use Rattle.std.specs.Prelude.{ℕ, Bool, false, ◌||◌, List, [], ◌++◌, flat_map, length, nat_lt, Option, Some, None, if◌then◌else◌}
-use Rattle.ps_objects.specs.declared.settings.Settings.{Settings}
+use Rattle.std.specs.Prelude.{ℕ, Bool, ◌||◌, List, [], ◌++◌, flat_map, length, nat_lt, Option, Some, None, if◌then◌else◌}
 use Rattle.ps_execution.specs.Section.{End, Through, Stopped, Quitted, OutOfTurns}
 use Rattle.ps_execution.specs.Table.{Table}
 use Rattle.dsc_split.specs.Sections.{page_count, sections_of}
 use Rattle.out_writers.specs.Texts.{pictures}
-use Rattle.section_sequence.specs.Sequence.{Progress, job_of, sequence_meaning}
+use Rattle.section_sequence.specs.Sequence.{Progress}
+use Rattle.job_run.specs.Sequence.{progress_of}
+use Rattle.command_words.specs.Words.{command_of}
+use Rattle.command_words.specs.declared.command.Command.{Command}
+use Rattle.command_words.specs.declared.command.Command.TheVariants.{Plain, Split}
 use Rattle.operator_table.specs.Operators.{table}
-use Rattle.rip_run.specs.Words.{command_of}
 use Rattle.rip_run.specs.Texts.{done_line, section_line, too_large_line, too_many_line, usage_line}
-use Rattle.rip_run.specs.declared.word.Command.{Command}
-use Rattle.rip_run.specs.declared.word.Command.TheVariants.{Plain, Split}
 use Rattle.rip_run.specs.declared.status.Status.{Status}
 use Rattle.rip_run.specs.declared.status.Status.TheVariants as status
 
@@ -24,10 +24,6 @@ pub record JobResult : Type 0 where
 abbrev pub told : List ℕ → Status → JobResult
 told text answer = record { pages = []; back = text; status = answer }
 
--- 72 dots per inch, on paper of 612 by 792 pixels
-abbrev pub default_settings : Settings
-default_settings = record { dpi = 72; width = 612; height = 792; keep = false }
-
 -- a stop at a section's top and spent turns make a job error
 abbrev pub status_of : End → Status
 status_of Through = status.Done 0
@@ -35,21 +31,17 @@ status_of Stopped = status.JobError 0
 status_of Quitted = status.Done 0
 status_of OutOfTurns = status.JobError 0
 
--- what was said, and the closing line
-abbrev pub closed_text : Progress → List ℕ
-closed_text p = p.text ++ done_line (length p.papers)
-
 -- what sections have come to: their pictures, their text with the closing line, and how the last that ran has ended
 abbrev pub result_of_progress : Progress → JobResult
-result_of_progress p = record { pages = pictures p.papers; back = closed_text p; status = status_of p.end }
-
--- the sections of a job in sequence
-abbrev pub progress_of : Table → ℕ → List ℕ → Progress
-progress_of T moment job = sequence_meaning (job_of T default_settings moment job) (sections_of job)
+result_of_progress p = record {
+  pages = pictures p.papers;
+  back = p.text ++ done_line (length p.papers);
+  status = status_of p.end;
+}
 
 -- what a command makes of the sections of a job
 abbrev pub result_of_sections : Table → Command → ℕ → List ℕ → JobResult
-result_of_sections T Plain moment job = result_of_progress (progress_of T moment job)
+result_of_sections T (Plain options) moment job = result_of_progress (progress_of T options.settings moment job)
 result_of_sections T Split moment job = told (flat_map section_line (sections_of job)) (status.Done 0)
 
 -- more than 100,000 pages are too many

@@ -3,4 +3,3 @@ pub mod Job
 pub mod Reading
 pub mod Status
 pub mod Texts
-pub mod Words

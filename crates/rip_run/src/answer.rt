@@ -1,7 +1,10 @@
 //! What is written for a job that was read.
-ghost use Rattle.std.specs.Prelude.{◌≡◌, ◌≢◌, ◌≤◌, ◌⊎◌, ℕ, List, length, flat_map, IfOk, IfSome};
+ghost use Rattle.std.specs.Prelude.{◌≡◌, ◌≢◌, ◌≤◌, ◌⊎◌, ℕ, List, Option, length, flat_map, IfOk, IfSome};
 ghost use Rattle.rip_ports.specs.Ports.{HasRisen};
 ghost use Rattle.dsc_split.specs.declared.section.Section.{Section};
+ghost use Rattle.ps_execution.specs.Table.{Table};
+ghost use Rattle.command_words.specs.Words.{SettingsInRange};
+ghost use Rattle.command_words.specs.declared.command.Command.TheVariants.{Split};
 ghost use Rattle.rip_run.specs.Answers.{Answers};
 ghost use Rattle.rip_run.specs.Job.{result_of_command, result_of_read, told};
 ghost use Rattle.rip_run.specs.Reading.{IsAtEnd};
@@ -13,7 +16,7 @@ use crate::plain::run_plain;
 use crate::reading::{Unread, read_job};
 use crate::status::Status;
 use crate::texts::{too_large_line, too_many_line};
-use crate::word::Command;
+use command_words::Command;
 use copy_lists::{NoMemory, Text};
 use dsc_split::{JOB_LIMIT, Section, SplitError, split};
 use ps_steps::Operators;
@@ -25,14 +28,15 @@ use vm_cells::Cells;
 /// Reads the job and writes the command's result.
 pub(crate) fn answer<S: Source, P: Sink, B: Sink, T: Operators<Cells>>(
     alloc: Global,
-    command: Command,
+    command: &Command,
     moment: u64,
     source: &mut S,
     pages: &mut P,
     back: &mut B,
 ) -> Status
+    requires { SettingsInRange command.now }
     ensures answers { IfSome (S.left source.old) (λ job. Answers
-        (result_of_command T.table command moment job) result
+        (result_of_command T.table command.now moment job) result
         (P.holds pages.old) (P.holds pages.new) (B.holds back.old) (B.holds back.new)) }
     ensures read { IsAfterReading result → IsAtEnd (S.left source.new) }
     ensures read_fault { result ≡ ReadFault → HasRisen (S.faults source.old) (S.faults source.new) }
@@ -49,18 +53,18 @@ pub(crate) fn answer<S: Source, P: Sink, B: Sink, T: Operators<Cells>>(
     }
 }
 
-#[tactic(auto, using(crate::proofs::Answering::plain_answers, crate::proofs::Answering::split_answers, crate::proofs::Answering::too_many_answers, crate::proofs::Answering::wanting_answers))]
 /// Writes the result for a job that is no larger than a job may be.
 fn answer_job<P: Sink, B: Sink, T: Operators<Cells>>(
     alloc: Global,
-    command: Command,
+    command: &Command,
     moment: u64,
     job: &[u8],
     pages: &mut P,
     back: &mut B,
 ) -> Status
-    requires { length job.now ≤ JOB_LIMIT }
-    ensures answers { Answers (result_of_read T.table command moment job.now) result
+    requires limit { length job.now ≤ JOB_LIMIT }
+    requires in_range { SettingsInRange command.now }
+    ensures answers { Answers (result_of_read T.table command.now moment job.now) result
         (P.holds pages.old) (P.holds pages.new) (B.holds back.old) (B.holds back.new) }
     ensures write_fault { result ≡ WriteFault →
         HasRisen (P.faults pages.old) (P.faults pages.new) ⊎
@@ -68,17 +72,32 @@ fn answer_job<P: Sink, B: Sink, T: Operators<Cells>>(
     ensures read_fault { result ≢ ReadFault }
     ensures words { result ≢ Usage }
 {
+    match command {
+        Command::Plain(options) => {
+            run_plain::<P, B, T>(alloc, options, moment, job, pages, back)
+        }
+        Command::Split => list_sections(alloc, job, back),
+    }
+}
+
+/// Writes a line for each section of a job.
+#[tactic(auto, using(crate::proofs::Answering::split_answers, crate::proofs::Answering::too_many_answers, crate::proofs::Answering::wanting_answers))]
+fn list_sections<B: Sink>(alloc: Global, job: &[u8], back: &mut B) -> Status
+    requires { length job.now ≤ JOB_LIMIT }
+    ensures answers { (T : Table) (moment : ℕ) (held : Option (List ℕ)) →
+        Answers (result_of_read T Split moment job.now) result
+        held held (B.holds back.old) (B.holds back.new) }
+    ensures write_fault { result ≡ WriteFault →
+        HasRisen (B.faults back.old) (B.faults back.new) }
+    ensures read_fault { result ≢ ReadFault }
+    ensures words { result ≢ Usage }
+{
     match split(alloc, job) {
-        Ok(sections) => match command {
-            Command::Plain => {
-                run_plain::<P, B, T>(alloc, moment, job, sections.as_slice(), pages, back)
-            }
-            Command::Split => write_made(
-                back,
-                section_list(alloc, sections.as_slice()),
-                Status::Done { reruns: 0 },
-            ),
-        },
+        Ok(sections) => write_made(
+            back,
+            section_list(alloc, sections.as_slice()),
+            Status::Done { reruns: 0 },
+        ),
         Err(SplitError::TooManyPages { count }) => write_made(
             back,
             too_many_line(alloc, count),
@@ -102,7 +121,11 @@ fn section_list(alloc: Global, sections: &[Section]) -> Result<Text, NoMemory>
 }
 
 /// Writes a text on the back channel, where memory was found for it.
-fn write_made<B: Sink>(back: &mut B, made: Result<Text, NoMemory>, status: Status) -> Status
+pub(crate) fn write_made<B: Sink>(
+    back: &mut B,
+    made: Result<Text, NoMemory>,
+    status: Status,
+) -> Status
     requires { IsDefined status }
     ensures held { (text : List ℕ) → IfOk made (λ m. m ≡ text) →
         Writes result text (B.holds back.old) (B.holds back.new) }

@@ -5,15 +5,15 @@ ghost use Rattle.rip_run.specs.Job.{is_refused, job_result};
 ghost use Rattle.rip_run.specs.Reading.{IsAtEnd};
 ghost use Rattle.rip_run.specs.Status.{IsAfterReading, IsDefined, IsRefusal, IsRunOrWanting, Writes};
 ghost use Rattle.rip_run.specs.Texts.{usage_line};
-ghost use Rattle.rip_run.specs.Words.{command_of};
+ghost use Rattle.command_words.specs.Words.{command_of};
 ghost use Rattle.rip_run.specs.declared.status.Status.TheVariants.{ReadFault, TooLarge, TooManyPages, Usage, WriteFault};
-ghost use Rattle.rip_run.specs.declared.word.Command.{Command};
+ghost use Rattle.command_words.specs.declared.command.Command.{Command};
 ghost use Rattle.dsc_split.specs.Sections.{page_count, sections_of};
 
 use crate::answer::{answer, write};
 use crate::status::Status;
 use crate::texts::usage_line;
-use crate::word::{Word, command_of};
+use command_words::{Word, command_of};
 use dsc_split::{JOB_LIMIT, MAX_PAGES};
 use operator_table::AllOperators;
 use rip_ports::{Sink, Source};
@@ -74,7 +74,7 @@ pub fn rip_plain<S: Source, P: Sink, B: Sink>(
 {
     match command_of(words) {
         Some(command) => answer::<S, P, B, AllOperators>(
-            alloc, command, moment, source, pages, back,
+            alloc, &command, moment, source, pages, back,
         ),
         None => write(back, usage_line(), Status::Usage),
     }

@@ -9,8 +9,7 @@ mod status;
 #[cfg(test)]
 mod tests;
 mod texts;
-mod word;
 
 pub use call::rip_plain;
+pub use command_words::Word;
 pub use status::Status;
-pub use word::Word;

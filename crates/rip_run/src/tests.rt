@@ -172,6 +172,14 @@ fn answers_words_and_faults(rt: HostRuntime) -> Result<(), NoMemory> {
     assert_eq!(rt; unknown.status, Status::Usage);
     let too_many = call(alloc, &["plain", "plain"], b"1 =", &[1], &[])?;
     assert_eq!(rt; too_many.status, Status::Usage);
+    let sized = call(
+        alloc,
+        &["plain", "--dpi=300", "--width", "8192"],
+        b"1 =",
+        &[],
+        &[],
+    )?;
+    assert_eq!(rt; sized.status, Status::Done { reruns: 0 });
 
     for number in [1, 2] {
         let unread = call(alloc, &["plain"], b"1 =", &[number], &[])?;

@@ -1,0 +1,63 @@
+//! The operators of this crate by their places in the list of operators.
+ghost use Rattle.std.specs.Prelude.{◌≡◌, true};
+ghost use Rattle.ps_meaning.specs.Ready.{Ready, ReadyIn};
+ghost use Rattle.ps_operator.specs.Owes.{Does, Runs};
+ghost use Rattle.gstate.specs.Operators as spec;
+
+use crate::beginning::initgraphics;
+use crate::dashes::{currentdash, setdash};
+use crate::layers::{grestore, grestoreall, gsave};
+use crate::lines::{
+    currentflat, currentlinecap, currentlinejoin, currentlinewidth, currentmiterlimit,
+    currentstrokeadjust, setflat, setlinecap, setlinejoin, setlinewidth, setmiterlimit,
+    setstrokeadjust,
+};
+use ps_kinds::{Act, NoMemory, Op, Refusal, State};
+use ps_names::places;
+use ps_operator::{Mem, told_done};
+
+/// Whether an operator is one of this crate.
+pub fn belongs(op: Op, _state: &State) -> bool
+    ensures { result ≡ spec.belongs op }
+{
+    places::GSAVE <= op.index() && op.index() <= places::CURRENTDASH
+}
+
+fn run_done<M: Mem>(op: Op, state: &mut State, mem: &mut M) -> Result<(), Refusal>
+    requires belongs { spec.belongs op ≡ true }
+    requires ready { Ready state.old (M.log mem.old).view }
+    ensures { Does (spec.run op) state.old (M.log mem.old) result state.new (M.log mem.new) }
+{
+    match op.index() {
+        places::GSAVE => gsave(state),
+        places::GRESTORE => grestore(state, mem),
+        places::GRESTOREALL => grestoreall(state, mem),
+        places::INITGRAPHICS => initgraphics(state),
+        places::SETLINEWIDTH => setlinewidth(state),
+        places::SETLINECAP => setlinecap(state),
+        places::SETLINEJOIN => setlinejoin(state),
+        places::SETMITERLIMIT => setmiterlimit(state),
+        places::SETFLAT => setflat(state),
+        places::SETSTROKEADJUST => setstrokeadjust(state),
+        places::CURRENTLINEWIDTH => currentlinewidth(state),
+        places::CURRENTLINECAP => currentlinecap(state),
+        places::CURRENTLINEJOIN => currentlinejoin(state),
+        places::CURRENTMITERLIMIT => currentmiterlimit(state),
+        places::CURRENTFLAT => currentflat(state),
+        places::CURRENTSTROKEADJUST => currentstrokeadjust(state),
+        places::SETDASH => setdash(state, mem),
+        places::CURRENTDASH => currentdash(state),
+        _ => unreachable!(),
+    }
+}
+
+/// Runs an operator of this crate. A refusal is told as `Act::Fail`, and changes nothing.
+#[tactic(auto, using(ps_operator::proofs::Then::told_done_gives))]
+pub fn run<M: Mem>(op: Op, text: &[u8], state: &mut State, mem: &mut M) -> Result<Act, NoMemory>
+    requires belongs { spec.belongs op ≡ true }
+    requires ready { ReadyIn text.now state.old (M.log mem.old).view }
+    ensures { Runs (spec.run op) state.old (M.log mem.old) result state.new (M.log mem.new) }
+{
+    let _text = text;
+    told_done(run_done(op, state, mem))
+}

@@ -1,0 +1,5 @@
+pub mod Concatenating
+pub mod Filling
+pub mod Going
+pub mod Keeping
+pub mod Looking

@@ -1,0 +1,59 @@
+//! The operators of this crate by their places in the list of operators.
+ghost use Rattle.std.specs.Prelude.{◌≡◌, true};
+ghost use Rattle.ps_meaning.specs.Ready.{Ready, ReadyIn};
+ghost use Rattle.ps_operator.specs.Owes.{Does, Runs};
+ghost use Rattle.mat_ops.specs.Operators as spec;
+
+use crate::arrays::{
+    concatmatrix, currentmatrix, defaultmatrix, identmatrix, invertmatrix, matrix,
+};
+use crate::carrying::{Way, carry};
+use crate::changing::{Motion, change};
+use crate::current::{concat, initmatrix, setmatrix};
+use ps_kinds::{Act, NoMemory, Op, Refusal, State};
+use ps_names::places;
+use ps_operator::{Mem, told_done};
+
+/// Whether an operator is one of this crate.
+pub fn belongs(op: Op, _state: &State) -> bool
+    ensures { result ≡ spec.belongs op }
+{
+    places::MATRIX <= op.index() && op.index() <= places::IDTRANSFORM
+}
+
+fn run_done<M: Mem>(op: Op, state: &mut State, mem: &mut M) -> Result<(), Refusal>
+    requires belongs { spec.belongs op ≡ true }
+    requires ready { Ready state.old (M.log mem.old).view }
+    ensures { Does (spec.run op) state.old (M.log mem.old) result state.new (M.log mem.new) }
+{
+    match op.index() {
+        places::MATRIX => matrix(state, mem),
+        places::IDENTMATRIX => identmatrix(state, mem),
+        places::DEFAULTMATRIX => defaultmatrix(state, mem),
+        places::CURRENTMATRIX => currentmatrix(state, mem),
+        places::SETMATRIX => setmatrix(state, mem),
+        places::INITMATRIX => initmatrix(state),
+        places::TRANSLATE => change(Motion::Translation, state, mem),
+        places::SCALE => change(Motion::Scaling, state, mem),
+        places::ROTATE => change(Motion::Rotation, state, mem),
+        places::CONCAT => concat(state, mem),
+        places::CONCATMATRIX => concatmatrix(state, mem),
+        places::INVERTMATRIX => invertmatrix(state, mem),
+        places::TRANSFORM => carry(Way::Point, state, mem),
+        places::DTRANSFORM => carry(Way::Distance, state, mem),
+        places::ITRANSFORM => carry(Way::PointBack, state, mem),
+        places::IDTRANSFORM => carry(Way::DistanceBack, state, mem),
+        _ => unreachable!(),
+    }
+}
+
+/// Runs an operator of this crate. A refusal is told as `Act::Fail`, and changes nothing.
+#[tactic(auto, using(ps_operator::proofs::Then::told_done_gives))]
+pub fn run<M: Mem>(op: Op, text: &[u8], state: &mut State, mem: &mut M) -> Result<Act, NoMemory>
+    requires belongs { spec.belongs op ≡ true }
+    requires ready { ReadyIn text.now state.old (M.log mem.old).view }
+    ensures { Runs (spec.run op) state.old (M.log mem.old) result state.new (M.log mem.new) }
+{
+    let _text = text;
+    told_done(run_done(op, state, mem))
+}
