@@ -1,5 +1,5 @@
 -- The operators and the steps of this crate.
-use Rattle.std.specs.Prelude.{◌≡◌, ℕ, Bool, false, ◌&&◌, ◌||◌, nat_le, [], ◌∷◌}
+use Rattle.std.specs.Prelude.{◌≡◌, ℕ, Bool, false, ◌&&◌, ◌||◌, nat_le, nat_eq, [], ◌∷◌}
 use Rattle.ps_names.specs.declared.places.TheConstants as at
 use Rattle.ps_kinds.specs.declared.act.Act.TheVariants as act
 use Rattle.ps_kinds.specs.declared.frame.Frame.{Frame}
@@ -27,6 +27,10 @@ operators =
 -- they stand in two parts of the list of operators
 abbrev pub belongs : ℕ → Bool
 belongs n = nat_le at.NEWPATH n && nat_le n at.CLOSEPATH || nat_le at.PATHBBOX n && nat_le n at.PATHFORALL
+
+-- they always end with Done
+abbrev pub ends_done : ℕ → Bool
+ends_done n = nat_le at.NEWPATH n && nat_le n at.CLOSEPATH || nat_eq n at.PATHBBOX
 
 -- what the operator at a place does
 abbrev pub run : ℕ → State → Ask

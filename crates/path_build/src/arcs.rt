@@ -9,7 +9,8 @@ use crate::paths::point_room;
 use crate::points::curve_of;
 use ps_fixed::{Undefined, add, cos, div, mul, sin, sub};
 use ps_kinds::{
-    DevicePoint, ErrorName, Matrix, NoMemory, Objects, Operands, Path, Real, Refusal, Segment, State,
+    DevicePoint, ErrorName, Matrix, NoMemory, Objects, Operands, Path, Real, Refusal, Segment,
+    State,
 };
 use real_operands::{defined, placed, point_at, real_at};
 use std::alloc::Global;

@@ -1,7 +1,7 @@
 //! The operators of this crate by their places in the list of operators, and the steps of its frames.
 ghost use Rattle.std.specs.Prelude.{◌≡◌, true};
 ghost use Rattle.ps_meaning.specs.Ready.{Ready, ReadyIn};
-ghost use Rattle.ps_operator.specs.Owes.{Runs, StepsAlone, RunsStep};
+ghost use Rattle.ps_operator.specs.Owes.{DoesAlone, Runs, StepsAlone, RunsStep};
 ghost use Rattle.path_build.specs.Operators as spec;
 ghost use Rattle.path_build.specs.Walks as walks;
 
@@ -24,6 +24,27 @@ pub fn belongs(op: Op, _state: &State) -> bool
         || places::PATHBBOX <= place && place <= places::PATHFORALL
 }
 
+fn run_done(op: Op, state: &mut State) -> Result<(), Refusal>
+    requires { spec.ends_done op ≡ true }
+    ensures { DoesAlone (spec.run op) state.old result state.new }
+{
+    match op.index() {
+        places::NEWPATH => newpath(state),
+        places::CURRENTPOINT => currentpoint(state),
+        places::MOVETO => moveto(state),
+        places::RMOVETO => rmoveto(state),
+        places::LINETO => lineto(state),
+        places::RLINETO => rlineto(state),
+        places::CURVETO => curveto(state),
+        places::RCURVETO => rcurveto(state),
+        places::ARC => arc(state),
+        places::ARCN => arcn(state),
+        places::CLOSEPATH => closepath(state),
+        places::PATHBBOX => pathbbox(state),
+        _ => unreachable!(),
+    }
+}
+
 /// Runs an operator of this crate. A refusal is told as `Act::Fail`, and changes nothing.
 #[tactic(auto, using(ps_operator::proofs::Then::told_gives, ps_operator::proofs::Then::told_done_gives))]
 pub fn run<M: Mem>(op: Op, text: &[u8], state: &mut State, mem: &mut M) -> Result<Act, NoMemory>
@@ -32,21 +53,10 @@ pub fn run<M: Mem>(op: Op, text: &[u8], state: &mut State, mem: &mut M) -> Resul
     ensures { Runs (spec.run op) state.old (M.log mem.old) result state.new (M.log mem.new) }
 {
     let _text = text;
-    match op.index() {
-        places::NEWPATH => told_done(newpath(state)),
-        places::CURRENTPOINT => told_done(currentpoint(state)),
-        places::MOVETO => told_done(moveto(state)),
-        places::RMOVETO => told_done(rmoveto(state)),
-        places::LINETO => told_done(lineto(state)),
-        places::RLINETO => told_done(rlineto(state)),
-        places::CURVETO => told_done(curveto(state)),
-        places::RCURVETO => told_done(rcurveto(state)),
-        places::ARC => told_done(arc(state)),
-        places::ARCN => told_done(arcn(state)),
-        places::CLOSEPATH => told_done(closepath(state)),
-        places::PATHBBOX => told_done(pathbbox(state)),
-        places::PATHFORALL => told(pathforall(state)),
-        _ => unreachable!(),
+    if op.index() == places::PATHFORALL {
+        told(pathforall(state))
+    } else {
+        told_done(run_done(op, state))
     }
 }
 
