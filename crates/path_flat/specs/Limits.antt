@@ -1,5 +1,5 @@
 -- How many points a path has.
-use Rattle.std.specs.Prelude.{ℕ, List, sum_by}
+use Rattle.std.specs.Prelude.{ℕ, ◌+◌, List, [], ◌∷◌}
 use Rattle.ps_shapes.specs.declared.path.Segment.{Segment}
 use Rattle.ps_shapes.specs.declared.path.Segment.TheVariants.{Move, Line, Curve, Close}
 
@@ -12,7 +12,8 @@ points_of Close = 0
 
 -- the points of a path, which are 100,000 at most
 abbrev pub path_points : List Segment → ℕ
-path_points segments = sum_by points_of segments
+path_points [] = 0
+path_points (segment ∷ segments) = points_of segment + path_points segments
 
 -- the points of a segment once it is flattened: a curve becomes 32 lines
 abbrev pub flat_points_of : Segment → ℕ
@@ -23,4 +24,5 @@ flat_points_of Close = 0
 
 -- the points of a path once it is flattened
 abbrev pub flat_points : List Segment → ℕ
-flat_points segments = sum_by flat_points_of segments
+flat_points [] = 0
+flat_points (segment ∷ segments) = flat_points_of segment + flat_points segments

@@ -1,0 +1,14 @@
+//! Operators on clips, and flattening (section 8.2 of the language manual).
+#![tactic(auto)]
+
+mod clips;
+mod flats;
+mod laws;
+mod outlines;
+mod rectangles;
+mod running;
+#[cfg(test)]
+mod tests;
+
+pub use laws::clip_ops_lawful;
+pub use running::{belongs, run};
