@@ -3,7 +3,6 @@ use Rattle.std.proofs.Common.{◌≡◌, ℕ, ℤ, pos, negsuc, Bool, true, fals
 use Rattle.std.specs.Int.Signed.{le_z}
 use Rattle.ps_shapes.specs.Near.{IsNear, IsOnDevice}
 use Rattle.ps_shapes.specs.declared.path.DevicePoint.{DevicePoint}
-use Rattle.ps_shapes.specs.declared.polygon.Point.{Point}
 use Rattle.path_flat.specs.Curves.{holding, on_device, near, device_point_or, point_or_corner, corner, coordinate, curve_point, rounded, pixel_point}
 
 holding_yes : (test : Bool) (p : T test) → holding test ≡ Some p

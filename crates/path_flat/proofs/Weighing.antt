@@ -1,5 +1,5 @@
 -- Weights of a curve's points, which are 32768 together.
-use Rattle.std.proofs.Common.{◌≡◌, ℕ, ◌+◌, ◌-◌, ◌*◌, ◌^◌, ◌≤◌, ◌<◌, suc, refl, ap, ap₂, subst, sym, ◌∙◌, arith, SFits, to_z, of_z, to_z-of_z}
+use Rattle.std.proofs.Common.{◌≡◌, ℕ, ◌+◌, ◌-◌, ◌*◌, ◌^◌, ◌≤◌, suc, ap, ap₂, subst, sym, ◌∙◌, arith, SFits, to_z, of_z, to_z-of_z}
 use Rattle.std.proofs.Math.Nat.{mul-le-mul_left}
 use Rattle.std.specs.Int.{w64}
 use Rattle.ps_fixed.specs.Rounding.{floor_of}

@@ -1,5 +1,5 @@
 -- Points of curves, and points in 1/256 pixel.
-use Rattle.std.specs.Prelude.{ℕ, ℤ, pos, negsuc, ◌+◌, ◌-◌, ◌*◌, ◌+ℤ◌, ◌*ℤ◌, Bool, true, false, T, Option, Some, None}
+use Rattle.std.specs.Prelude.{ℕ, ℤ, pos, negsuc, ◌-◌, ◌*◌, ◌+ℤ◌, ◌*ℤ◌, Bool, true, false, T, Option, Some, None}
 use Rattle.std.specs.Int.Signed.{le_z}
 use Rattle.ps_shapes.specs.Near.{IsNear, IsOnDevice}
 use Rattle.ps_shapes.specs.declared.path.DevicePoint.{DevicePoint}

@@ -35,7 +35,7 @@ abbrev pub resting : Pen
 resting =
     record {
       start = record { x = record { count = pos 0 }; y = record { count = pos 0 }; near_x = (record { le = tt }, record { le = tt }); near_y = (record { le = tt }, record { le = tt }) };
-      at = record { x = record { count = pos 0 }; y = record { count = pos 0 }; near_x = (record { le = tt }, record { le = tt }); near_y = (record { le = tt }, record { le = tt }) }
+      at = record { x = record { count = pos 0 }; y = record { count = pos 0 }; near_x = (record { le = tt }, record { le = tt }); near_y = (record { le = tt }, record { le = tt }) };
     }
 
 -- the path with 32 lines in the place of each curve, and all else as it was

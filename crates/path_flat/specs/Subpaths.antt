@@ -1,10 +1,9 @@
 -- The subpaths of a path, in 1/256 pixel.
-use Rattle.std.specs.Prelude.{ℕ, zero, suc, ◌+◌, List, [], ◌∷◌, ◌++◌, map, Bool, true, false}
+use Rattle.std.specs.Prelude.{ℕ, zero, suc, ◌+◌, List, [], ◌∷◌, ◌++◌, map, true, false}
 use Rattle.ps_shapes.specs.declared.path.DevicePoint.{DevicePoint}
 use Rattle.ps_shapes.specs.declared.path.Segment.{Segment}
 use Rattle.ps_shapes.specs.declared.path.Segment.TheVariants.{Move, Line, Curve, Close}
 use Rattle.ps_shapes.specs.declared.polygon.Point.{Point}
-use Rattle.path_flat.specs.declared.flattening.Pen.{Pen}
 use Rattle.path_flat.specs.declared.tracing.Subpath.{Subpath}
 use Rattle.path_flat.specs.declared.tracing.Tracer.{Tracer}
 use Rattle.path_flat.specs.Curves.{curve_point, pixel_point}

@@ -81,8 +81,20 @@ pub fn curve_point(
         ≡ spec.coordinate part start.y.count first.y.count second.y.count end.y.count }
     ensures point { result ≡ spec.curve_point part start first second end }
 {
-    let x = coordinate(part, start.x.count, first.x.count, second.x.count, end.x.count);
-    let y = coordinate(part, start.y.count, first.y.count, second.y.count, end.y.count);
+    let x = coordinate(
+        part,
+        start.x.count,
+        first.x.count,
+        second.x.count,
+        end.x.count,
+    );
+    let y = coordinate(
+        part,
+        start.y.count,
+        first.y.count,
+        second.y.count,
+        end.y.count,
+    );
     DevicePoint {
         x: Real { count: x },
         y: Real { count: y },

@@ -6,9 +6,9 @@ mod curve;
 mod flattening;
 mod limit;
 mod refusal;
-mod tracing;
 #[cfg(test)]
 mod tests;
+mod tracing;
 
 pub use curve::{curve_point, pixel_point};
 pub use flattening::flattened;

@@ -18,17 +18,17 @@ overflow_add-result c =
     let g3 : SFits w64 c.weighted-c.result = search rules in
     let g4 : SFits w64 c.weighted-d.result = search rules in
     let h : Parts w.start w.first w.second w.end c.args.start c.args.first c.args.second c.args.end c.weighted-a.result c.weighted-b.result c.weighted-c.result c.weighted-d.result =
-      record {
-        whole = c.weights_at-weights.ensures.whole;
-        near_p = c.requires.start;
-        near_q = c.requires.first;
-        near_r = c.requires.second;
-        near_s = c.requires.end;
-        is_a = simp to_z-of_z at c.weighted-a.ensures;
-        is_b = simp to_z-of_z at c.weighted-b.ensures;
-        is_c = simp to_z-of_z at c.weighted-c.ensures;
-        is_d = simp to_z-of_z at c.weighted-d.ensures
-      }
+    record {
+      whole = c.weights_at-weights.ensures.whole;
+      near_p = c.requires.start;
+      near_q = c.requires.first;
+      near_r = c.requires.second;
+      near_s = c.requires.end;
+      is_a = simp to_z-of_z at c.weighted-a.ensures;
+      is_b = simp to_z-of_z at c.weighted-b.ensures;
+      is_c = simp to_z-of_z at c.weighted-c.ensures;
+      is_d = simp to_z-of_z at c.weighted-d.ensures;
+    }
     in
     let s = parts_summed w.start w.first w.second w.end c.args.start c.args.first c.args.second c.args.end c.weighted-a.result c.weighted-b.result c.weighted-c.result c.weighted-d.result h in
     simp to_z-of_z s.first
@@ -45,17 +45,17 @@ overflow_add-result-2 c =
     let g3 : SFits w64 c.weighted-c.result = search rules in
     let g4 : SFits w64 c.weighted-d.result = search rules in
     let h : Parts w.start w.first w.second w.end c.args.start c.args.first c.args.second c.args.end c.weighted-a.result c.weighted-b.result c.weighted-c.result c.weighted-d.result =
-      record {
-        whole = c.weights_at-weights.ensures.whole;
-        near_p = c.requires.start;
-        near_q = c.requires.first;
-        near_r = c.requires.second;
-        near_s = c.requires.end;
-        is_a = simp to_z-of_z at c.weighted-a.ensures;
-        is_b = simp to_z-of_z at c.weighted-b.ensures;
-        is_c = simp to_z-of_z at c.weighted-c.ensures;
-        is_d = simp to_z-of_z at c.weighted-d.ensures
-      }
+    record {
+      whole = c.weights_at-weights.ensures.whole;
+      near_p = c.requires.start;
+      near_q = c.requires.first;
+      near_r = c.requires.second;
+      near_s = c.requires.end;
+      is_a = simp to_z-of_z at c.weighted-a.ensures;
+      is_b = simp to_z-of_z at c.weighted-b.ensures;
+      is_c = simp to_z-of_z at c.weighted-c.ensures;
+      is_d = simp to_z-of_z at c.weighted-d.ensures;
+    }
     in
     let s = parts_summed w.start w.first w.second w.end c.args.start c.args.first c.args.second c.args.end c.weighted-a.result c.weighted-b.result c.weighted-c.result c.weighted-d.result h in
     let s1 : SFits w64 (c.weighted-a.result +ℤ c.weighted-b.result) = s.first in
@@ -73,17 +73,17 @@ overflow_add-result-3 c =
     let g3 : SFits w64 c.weighted-c.result = search rules in
     let g4 : SFits w64 c.weighted-d.result = search rules in
     let h : Parts w.start w.first w.second w.end c.args.start c.args.first c.args.second c.args.end c.weighted-a.result c.weighted-b.result c.weighted-c.result c.weighted-d.result =
-      record {
-        whole = c.weights_at-weights.ensures.whole;
-        near_p = c.requires.start;
-        near_q = c.requires.first;
-        near_r = c.requires.second;
-        near_s = c.requires.end;
-        is_a = simp to_z-of_z at c.weighted-a.ensures;
-        is_b = simp to_z-of_z at c.weighted-b.ensures;
-        is_c = simp to_z-of_z at c.weighted-c.ensures;
-        is_d = simp to_z-of_z at c.weighted-d.ensures
-      }
+    record {
+      whole = c.weights_at-weights.ensures.whole;
+      near_p = c.requires.start;
+      near_q = c.requires.first;
+      near_r = c.requires.second;
+      near_s = c.requires.end;
+      is_a = simp to_z-of_z at c.weighted-a.ensures;
+      is_b = simp to_z-of_z at c.weighted-b.ensures;
+      is_c = simp to_z-of_z at c.weighted-c.ensures;
+      is_d = simp to_z-of_z at c.weighted-d.ensures;
+    }
     in
     let s = parts_summed w.start w.first w.second w.end c.args.start c.args.first c.args.second c.args.end c.weighted-a.result c.weighted-b.result c.weighted-c.result c.weighted-d.result h in
     let s1 : SFits w64 (c.weighted-a.result +ℤ c.weighted-b.result) = s.first in
@@ -102,17 +102,17 @@ overflow_add-result-4 c =
     let g3 : SFits w64 c.weighted-c.result = search rules in
     let g4 : SFits w64 c.weighted-d.result = search rules in
     let h : Parts w.start w.first w.second w.end c.args.start c.args.first c.args.second c.args.end c.weighted-a.result c.weighted-b.result c.weighted-c.result c.weighted-d.result =
-      record {
-        whole = c.weights_at-weights.ensures.whole;
-        near_p = c.requires.start;
-        near_q = c.requires.first;
-        near_r = c.requires.second;
-        near_s = c.requires.end;
-        is_a = simp to_z-of_z at c.weighted-a.ensures;
-        is_b = simp to_z-of_z at c.weighted-b.ensures;
-        is_c = simp to_z-of_z at c.weighted-c.ensures;
-        is_d = simp to_z-of_z at c.weighted-d.ensures
-      }
+    record {
+      whole = c.weights_at-weights.ensures.whole;
+      near_p = c.requires.start;
+      near_q = c.requires.first;
+      near_r = c.requires.second;
+      near_s = c.requires.end;
+      is_a = simp to_z-of_z at c.weighted-a.ensures;
+      is_b = simp to_z-of_z at c.weighted-b.ensures;
+      is_c = simp to_z-of_z at c.weighted-c.ensures;
+      is_d = simp to_z-of_z at c.weighted-d.ensures;
+    }
     in
     let s = parts_summed w.start w.first w.second w.end c.args.start c.args.first c.args.second c.args.end c.weighted-a.result c.weighted-b.result c.weighted-c.result c.weighted-d.result h in
     let s1 : SFits w64 (c.weighted-a.result +ℤ c.weighted-b.result) = s.first in
@@ -132,17 +132,17 @@ returns-clause-value c =
     let g3 : SFits w64 c.weighted-c.result = search rules in
     let g4 : SFits w64 c.weighted-d.result = search rules in
     let h : Parts w.start w.first w.second w.end c.args.start c.args.first c.args.second c.args.end c.weighted-a.result c.weighted-b.result c.weighted-c.result c.weighted-d.result =
-      record {
-        whole = c.weights_at-weights.ensures.whole;
-        near_p = c.requires.start;
-        near_q = c.requires.first;
-        near_r = c.requires.second;
-        near_s = c.requires.end;
-        is_a = simp to_z-of_z at c.weighted-a.ensures;
-        is_b = simp to_z-of_z at c.weighted-b.ensures;
-        is_c = simp to_z-of_z at c.weighted-c.ensures;
-        is_d = simp to_z-of_z at c.weighted-d.ensures
-      }
+    record {
+      whole = c.weights_at-weights.ensures.whole;
+      near_p = c.requires.start;
+      near_q = c.requires.first;
+      near_r = c.requires.second;
+      near_s = c.requires.end;
+      is_a = simp to_z-of_z at c.weighted-a.ensures;
+      is_b = simp to_z-of_z at c.weighted-b.ensures;
+      is_c = simp to_z-of_z at c.weighted-c.ensures;
+      is_d = simp to_z-of_z at c.weighted-d.ensures;
+    }
     in
     computed c.weighted-a.result c.weighted-b.result c.weighted-c.result c.weighted-d.result g1 g2 g3 g4 (parts_summed w.start w.first w.second w.end c.args.start c.args.first c.args.second c.args.end c.weighted-a.result c.weighted-b.result c.weighted-c.result c.weighted-d.result h) (parts_near w.start w.first w.second w.end c.args.start c.args.first c.args.second c.args.end c.weighted-a.result c.weighted-b.result c.weighted-c.result c.weighted-d.result h)
     ∙ parts_sum c.args.part w.start w.first w.second w.end c.args.start c.args.first c.args.second c.args.end c.weighted-a.result c.weighted-b.result c.weighted-c.result c.weighted-d.result h c.weights_at-weights.ensures.start c.weights_at-weights.ensures.first c.weights_at-weights.ensures.second c.weights_at-weights.ensures.end
@@ -159,17 +159,17 @@ returns-clause-near c =
     let g3 : SFits w64 c.weighted-c.result = search rules in
     let g4 : SFits w64 c.weighted-d.result = search rules in
     let h : Parts w.start w.first w.second w.end c.args.start c.args.first c.args.second c.args.end c.weighted-a.result c.weighted-b.result c.weighted-c.result c.weighted-d.result =
-      record {
-        whole = c.weights_at-weights.ensures.whole;
-        near_p = c.requires.start;
-        near_q = c.requires.first;
-        near_r = c.requires.second;
-        near_s = c.requires.end;
-        is_a = simp to_z-of_z at c.weighted-a.ensures;
-        is_b = simp to_z-of_z at c.weighted-b.ensures;
-        is_c = simp to_z-of_z at c.weighted-c.ensures;
-        is_d = simp to_z-of_z at c.weighted-d.ensures
-      }
+    record {
+      whole = c.weights_at-weights.ensures.whole;
+      near_p = c.requires.start;
+      near_q = c.requires.first;
+      near_r = c.requires.second;
+      near_s = c.requires.end;
+      is_a = simp to_z-of_z at c.weighted-a.ensures;
+      is_b = simp to_z-of_z at c.weighted-b.ensures;
+      is_c = simp to_z-of_z at c.weighted-c.ensures;
+      is_d = simp to_z-of_z at c.weighted-d.ensures;
+    }
     in
     let near = parts_near w.start w.first w.second w.end c.args.start c.args.first c.args.second c.args.end c.weighted-a.result c.weighted-b.result c.weighted-c.result c.weighted-d.result h in
     subst (λ (z : ℤ). IsOnDevice z) (sym (computed c.weighted-a.result c.weighted-b.result c.weighted-c.result c.weighted-d.result g1 g2 g3 g4 (parts_summed w.start w.first w.second w.end c.args.start c.args.first c.args.second c.args.end c.weighted-a.result c.weighted-b.result c.weighted-c.result c.weighted-d.result h) near)) near
