@@ -10,8 +10,7 @@ use Rattle.ps_kinds.specs.declared.state.State.{State}
 use Rattle.ps_memory.specs.Tree.{done}
 use Rattle.ps_operator.specs.Registers.{ops, quiet}
 use Rattle.ps_operator.specs.Tree.{Ask, read}
-use Rattle.clip_ops.specs.Flats.{lines_of, polygons_of, path_room}
-use Rattle.clip_ops.specs.Outlines.{newest_outline}
+use Rattle.clip_ops.specs.Flats.{lines_of, polygons_of}
 
 -- the current path
 abbrev pub path_of : State → List Segment
@@ -34,13 +33,6 @@ clip_room clips = if nat_lt (length clips) 32 then Ok tt else Err LimitCheck
 -- flattenpath: each curve becomes 32 lines
 abbrev pub flattenpath : State → Ask
 flattenpath s = read (lines_of (path_of s)) (λ path. shows s 0 (clips_of s) path)
-
--- clippath: the outlines of the newest clip become the path, or that of the paper where nothing is clipped
-abbrev pub clippath : State → Ask
-clippath s =
-    read (newest_outline s.regs.state) (λ path.
-    read (path_room path) (λ _.
-    shows s 0 (clips_of s) path))
 
 -- initclip: nothing is clipped
 abbrev pub initclip : State → Ask

@@ -29,7 +29,3 @@ lines_of path = judged (flat_points path) (flattened path)
 -- the polygons of a path
 unfoldable pub polygons_of : List Segment → Result (List (List Point)) ErrorName
 polygons_of path = judged (flat_points path) (flat path)
-
--- a path without curves has 100,000 points or fewer
-abbrev pub path_room : List Segment → Result (Unit {0}) ErrorName
-path_room path = judged (flat_points path) tt

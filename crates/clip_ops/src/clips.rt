@@ -1,10 +1,9 @@
 //! Operators on the clips and on the whole path (section 8.2 of the language manual).
-ghost use Rattle.std.specs.Prelude.{◌≡◌, ◌++◌, ◌∷◌, OnOk};
+ghost use Rattle.std.specs.Prelude.{◌≡◌};
 ghost use Rattle.ps_operator.specs.Owes.{DoesAlone};
 ghost use Rattle.clip_ops.specs.Clips as spec;
 
-use crate::flats::{lines_of, path_room, polygons_of};
-use crate::outlines::newest_outline;
+use crate::flats::{lines_of, polygons_of};
 use ps_kinds::{Clip, Clips, ErrorName, Refusal, Rule, State};
 
 /// How many clips there may be.
@@ -26,16 +25,6 @@ pub(crate) fn flattenpath(state: &mut State) -> Result<(), Refusal>
 {
     let alloc = state.regs.operands.alloc();
     let path = lines_of(alloc, &state.regs.state.path)?;
-    state.regs.state.path = path;
-    Ok(())
-}
-
-pub(crate) fn clippath(state: &mut State) -> Result<(), Refusal>
-    ensures { DoesAlone spec.clippath state.old result state.new }
-{
-    let alloc = state.regs.operands.alloc();
-    let path = newest_outline(alloc, &state.regs.state)?;
-    path_room(&path)?;
     state.regs.state.path = path;
     Ok(())
 }

@@ -3,7 +3,7 @@ ghost use Rattle.std.specs.Prelude.{◌≡◌};
 ghost use Rattle.ps_objects.specs.Operands.{Reads};
 ghost use Rattle.clip_ops.specs.Flats as spec;
 
-use path_flat::{FlatRefusal, flat, flattened, flattens_within_limit};
+use path_flat::{FlatRefusal, flat, flattened};
 use ps_kinds::{ErrorName, Path, Polygons, Refusal};
 use std::alloc::Global;
 
@@ -19,7 +19,7 @@ pub(crate) fn told_flat<T>(answer: Result<T, FlatRefusal>) -> Result<T, Refusal>
 }
 
 /// The path with lines in the place of its curves: limitcheck.
-#[tactic(auto, using(crate::proofs::Judging::reads_judged))]
+#[tactic(auto, using(crate::proofs::Judging::lines_read))]
 pub(crate) fn lines_of(alloc: Global, path: &Path) -> Result<Path, Refusal>
     ensures { Reads (spec.lines_of path.now) result }
 {
@@ -27,20 +27,9 @@ pub(crate) fn lines_of(alloc: Global, path: &Path) -> Result<Path, Refusal>
 }
 
 /// The polygons of a path: limitcheck.
-#[tactic(auto, using(crate::proofs::Judging::reads_judged))]
+#[tactic(auto, using(crate::proofs::Judging::polygons_read))]
 pub(crate) fn polygons_of(alloc: Global, path: &Path) -> Result<Polygons, Refusal>
     ensures { Reads (spec.polygons_of path.now) result }
 {
     told_flat(flat(alloc, path))
-}
-
-/// Whether a path without curves has 100,000 points or fewer: limitcheck.
-pub(crate) fn path_room(path: &Path) -> Result<(), ErrorName>
-    ensures { result ≡ spec.path_room path.now }
-{
-    if flattens_within_limit(path.as_slice()) {
-        Ok(())
-    } else {
-        Err(ErrorName::LimitCheck)
-    }
 }

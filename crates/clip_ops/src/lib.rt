@@ -4,11 +4,7 @@
 mod clips;
 mod flats;
 mod laws;
-mod outlines;
-mod rectangles;
 mod running;
-#[cfg(test)]
-mod tests;
 
 pub use laws::clip_ops_lawful;
 pub use running::{belongs, run};

@@ -1,12 +1,11 @@
 //! The operators of this crate by their places in the list of operators.
 ghost use Rattle.std.specs.Prelude.{◌≡◌, true};
-ghost use Rattle.ps_meaning.specs.Ready.{Ready, ReadyIn};
-ghost use Rattle.ps_operator.specs.Owes.{Does, Runs};
+ghost use Rattle.ps_meaning.specs.Ready.{ReadyIn};
+ghost use Rattle.ps_operator.specs.Owes.{Runs};
 ghost use Rattle.clip_ops.specs.Operators as spec;
 
-use crate::clips::{clip, clippath, eoclip, flattenpath, initclip};
-use crate::rectangles::rectclip;
-use ps_kinds::{Act, NoMemory, Op, Refusal, State};
+use crate::clips::{clip, eoclip, flattenpath, initclip};
+use ps_kinds::{Act, NoMemory, Op, State};
 use ps_names::places;
 use ps_operator::{Mem, told_done};
 
@@ -15,25 +14,7 @@ pub fn belongs(op: Op, _state: &State) -> bool
     ensures { result ≡ spec.belongs op }
 {
     let place = op.index();
-    place == places::FLATTENPATH
-        || place == places::CLIPPATH
-        || places::INITCLIP <= place && place <= places::RECTCLIP
-}
-
-fn run_done<M: Mem>(op: Op, state: &mut State, mem: &mut M) -> Result<(), Refusal>
-    requires belongs { spec.belongs op ≡ true }
-    requires ready { Ready state.old (M.log mem.old).view }
-    ensures { Does (spec.run op) state.old (M.log mem.old) result state.new (M.log mem.new) }
-{
-    match op.index() {
-        places::FLATTENPATH => flattenpath(state),
-        places::CLIPPATH => clippath(state),
-        places::INITCLIP => initclip(state),
-        places::CLIP => clip(state),
-        places::EOCLIP => eoclip(state),
-        places::RECTCLIP => rectclip(state, mem),
-        _ => unreachable!(),
-    }
+    place == places::FLATTENPATH || places::INITCLIP <= place && place <= places::EOCLIP
 }
 
 /// Runs an operator of this crate. A refusal is told as `Act::Fail`, and changes nothing.
@@ -44,5 +25,11 @@ pub fn run<M: Mem>(op: Op, text: &[u8], state: &mut State, mem: &mut M) -> Resul
     ensures { Runs (spec.run op) state.old (M.log mem.old) result state.new (M.log mem.new) }
 {
     let _text = text;
-    told_done(run_done(op, state, mem))
+    match op.index() {
+        places::FLATTENPATH => told_done(flattenpath(state)),
+        places::INITCLIP => told_done(initclip(state)),
+        places::CLIP => told_done(clip(state)),
+        places::EOCLIP => told_done(eoclip(state)),
+        _ => unreachable!(),
+    }
 }
