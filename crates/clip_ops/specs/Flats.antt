@@ -1,0 +1,31 @@
+-- Flattening as operators read it.
+use Rattle.std.specs.Prelude.{ℕ, nat_le, if◌then◌else◌, List, Result, Ok, Err}
+use Rattle.ps_names.specs.declared.error_name.ErrorName.{ErrorName}
+use Rattle.ps_names.specs.declared.error_name.ErrorName.TheVariants.{LimitCheck}
+use Rattle.ps_objects.specs.declared.refusal.Refusal.{Refusal}
+use Rattle.ps_objects.specs.declared.refusal.Refusal.TheVariants as refusal
+use Rattle.ps_shapes.specs.declared.path.Segment.{Segment}
+use Rattle.ps_shapes.specs.declared.polygon.Point.{Point}
+use Rattle.path_flat.specs.declared.refusal.FlatRefusal.{FlatRefusal}
+use Rattle.path_flat.specs.declared.refusal.FlatRefusal.TheVariants as why
+use Rattle.path_flat.specs.Limits.{flat_points}
+use Rattle.path_flat.specs.Flattening.{flattened}
+use Rattle.path_flat.specs.Subpaths.{flat}
+
+-- the limit as a limitcheck
+abbrev pub told_flat : {A : Type 0} → Result A FlatRefusal → Result A Refusal
+told_flat (Ok x) = Ok x
+told_flat (Err why.Limit) = Err (refusal.Error LimitCheck)
+told_flat (Err why.NoMemory) = Err refusal.NoMemory
+
+-- the value of a path with so many flattened points; limitcheck where they are more than 100,000
+abbrev pub judged : {A : Type 0} → ℕ → A → Result A ErrorName
+judged points value = if nat_le points 100000 then Ok value else Err LimitCheck
+
+-- the path with lines in the place of its curves
+unfoldable pub lines_of : List Segment → Result (List Segment) ErrorName
+lines_of path = judged (flat_points path) (flattened path)
+
+-- the polygons of a path
+unfoldable pub polygons_of : List Segment → Result (List (List Point)) ErrorName
+polygons_of path = judged (flat_points path) (flat path)

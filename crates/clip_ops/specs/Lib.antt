@@ -1,0 +1,3 @@
+pub mod Flats
+pub mod Clips
+pub mod Operators

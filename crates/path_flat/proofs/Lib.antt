@@ -1,0 +1,4 @@
+pub mod Rounded
+pub mod Placed
+pub mod Weighing
+pub mod Walking

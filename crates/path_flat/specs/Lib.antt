@@ -1,0 +1,5 @@
+pub mod Limits
+pub mod Curves
+pub mod Flattening
+pub mod Subpaths
+pub mod Answers
