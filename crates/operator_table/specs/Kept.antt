@@ -30,6 +30,9 @@ use Rattle.save_restore.proofs.Keeping as save_restore
 use Rattle.mat_ops.proofs.Keeping as mat_ops
 use Rattle.gstate.proofs.Keeping as gstate
 use Rattle.colour_ops.proofs.Keeping as colour_ops
+use Rattle.path_build.proofs.Keeping as path_build
+use Rattle.path_build.proofs.StepKeeping as path_steps
+use Rattle.clip_ops.proofs.Keeping as clip_ops
 use Rattle.error_ops.proofs.Keeping as error_ops
 use Rattle.operator_table.specs.Operators.{on_container, Family, families, is_of, run_among, Walker, walkers, step_among, table}
 
@@ -54,7 +57,7 @@ container_keeps n text s W f =
 
 -- the law of each crate, in the order of the families
 families_keep : AllByRecursion IsKept families
-families_keep = (λ n text. stack_arith.run_keeps n text, (λ n text. text_ops.run_keeps n text, (λ n text. container_keeps n text, (λ n text. array_ops.run_keeps n text, (λ n text. object_ops.run_keeps n text, (λ n text. control_ops.run_keeps n text, (λ n text. file_ops.run_keeps n text, (λ n text. save_restore.run_keeps n text, (λ n text. mat_ops.run_keeps n text, (λ n text. gstate.run_keeps n text, (λ n text. colour_ops.run_keeps n text, (λ n text. error_ops.run_keeps n text, tt))))))))))))
+families_keep = (λ n text. stack_arith.run_keeps n text, (λ n text. text_ops.run_keeps n text, (λ n text. container_keeps n text, (λ n text. array_ops.run_keeps n text, (λ n text. object_ops.run_keeps n text, (λ n text. control_ops.run_keeps n text, (λ n text. file_ops.run_keeps n text, (λ n text. save_restore.run_keeps n text, (λ n text. mat_ops.run_keeps n text, (λ n text. gstate.run_keeps n text, (λ n text. colour_ops.run_keeps n text, (λ n text. path_build.run_keeps n text, (λ n text. clip_ops.run_keeps n text, (λ n text. path_build.run_keeps n text, (λ n text. clip_ops.run_keeps n text, (λ n text. error_ops.run_keeps n text, tt))))))))))))))))
 
 -- ---- frames
 
@@ -69,7 +72,10 @@ record KeptWalker (w : Walker) : Type 0 where
 
 -- the laws of each crate, in the order of the walkers
 walkers_keep : AllByRecursion KeptWalker walkers
-walkers_keep = (record { lawful = steps.steps_keep; steady = λ f text s. steps.steps_calm f s }, tt)
+walkers_keep = (
+  record { lawful = steps.steps_keep; steady = λ f text s. steps.steps_calm f s },
+  (record { lawful = path_steps.steps_keep; steady = λ f text s. path_steps.steps_calm f s }, tt),
+)
 
 steps_keep : (ws : List Walker) → AllByRecursion KeptWalker ws → (f : Frame) → IsLawfulStep f (step_among ws f)
 steps_keep [] h f text s W g = record { lawful = tt }

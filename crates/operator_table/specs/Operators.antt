@@ -22,6 +22,9 @@ use Rattle.save_restore.specs.Operators as save_restore
 use Rattle.mat_ops.specs.Operators as mat_ops
 use Rattle.gstate.specs.Operators as gstate
 use Rattle.colour_ops.specs.Operators as colour_ops
+use Rattle.path_build.specs.Operators as path_build
+use Rattle.path_build.specs.Walks as walks
+use Rattle.clip_ops.specs.Operators as clip_ops
 use Rattle.error_ops.specs.Operators as error_ops
 
 -- ---- operators
@@ -52,6 +55,10 @@ families =
     ∷ record { first = at.MATRIX; last = at.IDTRANSFORM; run = λ n text s. mat_ops.run n s }
     ∷ record { first = at.GSAVE; last = at.CURRENTDASH; run = λ n text s. gstate.run n s }
     ∷ record { first = at.SETGRAY; last = at.CURRENTHALFTONE; run = λ n text s. colour_ops.run n s }
+    ∷ record { first = at.NEWPATH; last = at.CLOSEPATH; run = λ n text s. path_build.run n s }
+    ∷ record { first = at.FLATTENPATH; last = at.FLATTENPATH; run = λ n text s. clip_ops.run n s }
+    ∷ record { first = at.PATHBBOX; last = at.PATHFORALL; run = λ n text s. path_build.run n s }
+    ∷ record { first = at.INITCLIP; last = at.EOCLIP; run = λ n text s. clip_ops.run n s }
     ∷ record { first = at.FIRST_DEFAULT_ENTRY; last = at.OPERATOR_COUNT - 1; run = λ n text s. error_ops.run n s }
     ∷ []
 
@@ -73,7 +80,10 @@ pub record Walker : Type 0 where
 
 -- the crates that are there whose frames take steps
 abbrev pub walkers : List Walker
-walkers = record { walks = rounds.walks; step = λ f text s. rounds.step f s } ∷ []
+walkers =
+    record { walks = rounds.walks; step = λ f text s. rounds.step f s }
+    ∷ record { walks = walks.walks; step = λ f text s. walks.step f s }
+    ∷ []
 
 -- the step of a frame; that of no crate's frame is undefined
 abbrev pub step_among : List Walker → Frame → List ℕ → State → Ask

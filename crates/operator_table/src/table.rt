@@ -3,6 +3,7 @@ ghost use Rattle.std.specs.Prelude.{◌≡◌, true};
 ghost use Rattle.ps_meaning.specs.Ready.{ReadyIn};
 ghost use Rattle.ps_operator.specs.Owes.{Runs};
 ghost use Rattle.control_ops.specs.Rounds as rounds;
+ghost use Rattle.path_build.specs.Walks as walks;
 ghost use Rattle.dict_ops.specs.Operators as dicts;
 ghost use Rattle.operator_table.specs.Operators.{on_container};
 
@@ -22,6 +23,14 @@ fn is_control(frames: &Frames) -> bool
     ensures { result ≡ rounds.walks_in frames.now }
 {
     !frames.is_empty() && control_ops::walks(frames.at(0))
+}
+
+/// Whether the newest of these frames is one of the walks along a path.
+#[tactic(auto, using(crate::proofs::Walking::path_walks_first, crate::proofs::Walking::path_walks_none))]
+fn is_path_walk(frames: &Frames) -> bool
+    ensures { result ≡ walks.walks_in frames.now }
+{
+    !frames.is_empty() && path_build::walks(frames.at(0))
 }
 
 /// Runs an operator on dictionaries, or one of the same name on arrays and strings, where the container is no dictionary.
@@ -62,16 +71,22 @@ impl<M: Mem> Operators<M> for AllOperators {
             places::MATRIX..=places::IDTRANSFORM => mat_ops::run(op, text, state, mem),
             places::GSAVE..=places::CURRENTDASH => gstate::run(op, text, state, mem),
             places::SETGRAY..=places::CURRENTHALFTONE => colour_ops::run(op, text, state, mem),
+            places::NEWPATH..=places::CLOSEPATH => path_build::run(op, text, state, mem),
+            places::FLATTENPATH => clip_ops::run(op, text, state, mem),
+            places::PATHBBOX..=places::PATHFORALL => path_build::run(op, text, state, mem),
+            places::INITCLIP..=places::EOCLIP => clip_ops::run(op, text, state, mem),
             places::FIRST_DEFAULT_ENTRY.. => error_ops::run(op, text, state, mem),
             _ => Ok(Act::Fail(ErrorName::Undefined)),
         }
     }
 
     /// A crate whose frames take steps has its arm here, by the kind of the newest frame.
-    #[tactic(auto, using(crate::proofs::Walking::runs_there, crate::proofs::Walking::runs_absent))]
+    #[tactic(auto, using(crate::proofs::Walking::runs_there, crate::proofs::Walking::runs_path, crate::proofs::Walking::runs_absent))]
     fn step(text: &[u8], state: &mut State, mem: &mut M) -> Result<Act, NoMemory> {
         if is_control(&state.frames) {
             control_ops::step(text, state, mem)
+        } else if is_path_walk(&state.frames) {
+            path_build::step(text, state, mem)
         } else {
             Ok(Act::Fail(ErrorName::Undefined))
         }
