@@ -73,6 +73,7 @@ impl<M: Mem> Operators<M> for AllOperators {
             places::SETGRAY..=places::CURRENTHALFTONE => colour_ops::run(op, text, state, mem),
             places::NEWPATH..=places::CLOSEPATH => path_build::run(op, text, state, mem),
             places::FLATTENPATH => clip_ops::run(op, text, state, mem),
+            places::CLIPPATH => Ok(Act::Fail(ErrorName::Undefined)),
             places::PATHBBOX..=places::PATHFORALL => path_build::run(op, text, state, mem),
             places::INITCLIP..=places::EOCLIP => clip_ops::run(op, text, state, mem),
             places::FIRST_DEFAULT_ENTRY.. => error_ops::run(op, text, state, mem),
