@@ -1,0 +1,5 @@
+pub mod Quotients
+pub mod Walks
+pub mod Bits
+pub mod Drawn
+pub mod Outlining

@@ -1,0 +1,22 @@
+//! The polygons that a stroke paints: what a round or angular pen draws along flattened subpaths (section 4.5.1 of the
+//! language manual).
+#![tactic(auto)]
+
+mod arithmetic;
+mod corner;
+mod ends;
+mod joins;
+mod outline;
+mod pen;
+mod ring;
+mod side;
+mod vector;
+
+pub use arithmetic::nearest_quotient;
+pub use outline::outlines;
+pub use pen::{Pen, pen_for, scale};
+pub use side::{Side, sides};
+pub use vector::Vector;
+
+#[cfg(test)]
+mod tests;
