@@ -3,3 +3,4 @@ pub mod Walks
 pub mod Bits
 pub mod Drawn
 pub mod Outlining
+pub mod Joining

@@ -1,6 +1,6 @@
 -- Outlines drawn part by part.
 use Rattle.std.proofs.Common.{◌≡◌, ℕ, zero, ◌+◌, ◌-◌, ◌<◌, ◌≤◌, ◌&&◌, suc, ap₂, Bool, true, false, List, [], ◌∷◌, ◌++◌, length, get_or, take, drop, refl, ap, subst, sym, ◌∙◌, append_assoc, arith}
-use Rattle.std.specs.Prelude.{Result, Ok, Err, map}
+use Rattle.std.specs.Prelude.{Result, Ok, Err, map, pos, negsuc, int_le, T}
 use Rattle.std.proofs.lemmas.List.{append-nil, map-append, nil_from_length, length-drop, take_more, take_all}
 use Rattle.std.proofs.Math.Seq.{drop-cons}
 use Rattle.ps_shapes.specs.declared.polygon.Point.{Point}
@@ -12,11 +12,11 @@ use Rattle.stroke_build.specs.declared.side.Side.{Side}
 use Rattle.path_flat.specs.declared.tracing.Subpath.{Subpath}
 use Rattle.stroke_build.specs.declared.vector.Vector.{Vector}
 use Rattle.stroke_build.specs.Corners.{are_near, places, is_near_corner, is_near_polygon, corners_of, corner_of}
-use Rattle.stroke_build.specs.Drawing.{Draws, Makes}
+use Rattle.stroke_build.specs.Drawing.{Draws, Refuses, Outlines}
 use Rattle.std.specs.List.{range_with_len}
 use Rattle.std.proofs.lemmas.List.FromFn.{map-range_with_len_more}
 use Rattle.stroke_build.specs.Sides.{side_between, sides_after, sides}
-use Rattle.stroke_build.specs.Outlines.{side_polygon, ring_corner, ring, join, joins, outline_along, outline, outlines_by, outlines}
+use Rattle.stroke_build.specs.Outlines.{side_polygon, ring_corner, ring, join, joins, outline_along, outline, outlines_by, outlines, caps, ends}
 use Rattle.stroke_build.proofs.Drawn.{far_front, far_back}
 use Rattle.stroke_build.proofs.Walks.{drop_step, drop_past}
 
@@ -37,9 +37,12 @@ gone_on now new left part rest old whole split is e = record {
 pub ended : (now left old whole : List (List Corner)) → left ≡ [] → IsLeft now left old whole → now ≡ old ++ whole
 ended now left old whole e is = sym (append-nil now) ∙ ap (λ (l : List (List Corner)). now ++ l) (sym e) ∙ is.same
 
-pub stopped : {A B : Type 0} (now left part rest whole : List (List Corner)) (old mid new : List (List Point)) (e : FlatRefusal) → left ≡ part ++ rest → IsLeft now left (places old) whole → Draws {A = A} part mid new (Err e) → Draws {A = B} whole old new (Err e)
-stopped now left part rest whole old mid new refusal.Limit split is f = is.far (ap are_near split ∙ far_front part rest f)
-stopped now left part rest whole old mid new refusal.NoMemory split is f = f
+still_refused : (now left part rest old whole : List (List Corner)) (e : FlatRefusal) → left ≡ part ++ rest → IsLeft now left old whole → Refuses part e → Refuses whole e
+still_refused now left part rest old whole refusal.Limit split is f = is.far (ap are_near split ∙ far_front part rest f)
+still_refused now left part rest old whole refusal.NoMemory split is f = f
+
+pub stopped : {A : Type 0} (now left part rest old whole : List (List Corner)) (before after : List (List Point)) (result : Result A FlatRefusal) (e : FlatRefusal) → result ≡ Err e → left ≡ part ++ rest → IsLeft now left old whole → Refuses part e → Draws whole before after result
+stopped {A} now left part rest old whole before after result e is split walk f = subst (λ (r : Result A FlatRefusal). Draws whole before after r) (sym is) (still_refused now left part rest old whole e split walk f)
 
 -- ---- the lists that are walked
 
@@ -71,11 +74,6 @@ ring_none r = refl
 
 -- ---- outlines
 
-pub drawn_as : {A : Type 0} (ps qs : List (List Corner)) (old new : List (List Point)) (result : Result A FlatRefusal) → ps ≡ qs → Draws ps old new result → Draws qs old new result
-drawn_as ps qs old new (Ok done) e f = f ∙ ap (λ (l : List (List Corner)). places old ++ l) e
-drawn_as ps qs old new (Err refusal.Limit) e f = ap are_near (sym e) ∙ f
-drawn_as ps qs old new (Err refusal.NoMemory) e f = f
-
 pub outline_is : (pen : Pen) (ring : List Vector) (subpath : Subpath) (all : List Side) → all ≡ sides pen.radius subpath.points subpath.closed → outline_along pen ring subpath all ≡ outline pen ring subpath
 unfolding outline
 outline_is pen ring subpath all e = ap (λ (l : List Side). outline_along pen ring subpath l) e
@@ -83,3 +81,41 @@ outline_is pen ring subpath all e = ap (λ (l : List Side). outline_along pen ri
 pub outlines_are : (pen : Pen) (r : List Vector) (subpaths : List Subpath) → r ≡ ring pen.radius → outlines_by pen r subpaths ≡ outlines pen subpaths
 unfolding outlines
 outlines_are pen r subpaths e = ap (λ (l : List Vector). outlines_by pen l subpaths) e
+
+-- ---- ends
+
+pub ends_open : (pen : Pen) (ring : List Vector) (closed : Bool) (a b : Side) → closed ≡ false → caps pen ring a b ≡ ends pen ring closed a b
+ends_open pen ring true a b e = absurd (cc)
+ends_open pen ring false a b e = refl
+
+pub ends_closed : (pen : Pen) (ring : List Vector) (closed : Bool) (a b : Side) → closed ≡ true → join pen ring b a ≡ ends pen ring closed a b
+ends_closed pen ring true a b e = refl
+ends_closed pen ring false a b e = absurd (cc)
+
+-- points are near enough
+
+near_corner : (p : Point) → is_near_corner (corner_of p) ≡ true
+near_corner p = by (int_le (negsuc 1073741823) p.x) (int_le p.x (pos 1073741824)) (int_le (negsuc 1073741823) p.y) (int_le p.y (pos 1073741824)) (known _ p.near_x.0.le) (known _ p.near_x.1.le) (known _ p.near_y.0.le) (known _ p.near_y.1.le)
+  where
+    known : (b : Bool) → T b → b ≡ true
+    known true t = refl
+    known false t = absurd t
+    by : (a b c d : Bool) → a ≡ true → b ≡ true → c ≡ true → d ≡ true → ((a && b) && (c && d)) ≡ true
+    by a b c d e f g h = ap₂ ◌&&◌ (ap₂ ◌&&◌ e f) (ap₂ ◌&&◌ g h)
+
+near_polygon : (ps : List Point) → is_near_polygon (corners_of ps) ≡ true
+near_polygon [] = refl
+near_polygon (p ∷ ps) = ap₂ ◌&&◌ (near_corner p) (near_polygon ps)
+
+all_near : (ps : List (List Point)) → are_near (places ps) ≡ true
+all_near [] = refl
+all_near (p ∷ ps) = ap₂ ◌&&◌ (near_polygon p) (all_near ps)
+
+pub outlines_drawn : (polygons whole : List (List Corner)) (old new : List (List Point)) → polygons ≡ whole → old ≡ [] → places new ≡ places old ++ polygons → (places new ≡ whole) × (are_near whole ≡ true)
+outlines_drawn polygons whole old new e none f =
+    let is : places new ≡ whole = f ∙ ap (λ (l : List (List Point)). places l ++ polygons) none ∙ e in
+    (is, ap are_near (sym is) ∙ all_near new)
+
+pub outlines_refused : (polygons whole : List (List Corner)) (result : Result (List (List Point)) FlatRefusal) (e : FlatRefusal) → polygons ≡ whole → result ≡ Err e → Refuses polygons e → Outlines whole result
+outlines_refused polygons whole result e same is f =
+    subst (λ (r : Result (List (List Point)) FlatRefusal). Outlines whole r) (sym is) (subst (λ (l : List (List Corner)). Refuses l e) same f)

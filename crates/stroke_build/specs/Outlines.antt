@@ -50,50 +50,66 @@ abbrev pub fall : Side → ℤ
 fall s = s.to.y -ℤ s.from.y
 
 -- the cross product of two segments
-abbrev pub cross : Side → Side → ℤ
+unfoldable pub cross : Side → Side → ℤ
 cross a b = run a *ℤ fall b -ℤ fall a *ℤ run b
 
 -- the dot product of two segments
-abbrev pub dot : Side → Side → ℤ
+unfoldable pub dot : Side → Side → ℤ
 dot a b = run a *ℤ run b +ℤ fall a *ℤ fall b
 
--- to the outer side of the turn from a to b
-abbrev pub outer : Side → Side → ℤ → ℤ
-outer a b z = if int_lt (pos 0) (cross a b) then neg_ℤ z else z
+-- whether the outer side of the turn from a to b is against the normals
+abbrev pub is_against : Side → Side → Bool
+is_against a b = int_lt (pos 0) (cross a b)
+
+-- a coordinate of a distance to the outer side
+abbrev pub outer : Bool → ℤ → ℤ
+outer against z = if against then neg_ℤ z else z
+
+-- the point of a join
+abbrev pub joint : Side → Corner
+joint a = moved a.to (pos 0) (pos 0)
 
 -- the join's point, moved to the outer side
 abbrev pub outward : Side → Side → ℤ → ℤ → Corner
-outward a b x y = moved a.to (outer a b x) (outer a b y)
+outward a b x y = moved a.to (outer (is_against a b) x) (outer (is_against a b) y)
 
 -- the triangle P, P+s·n1, P+s·n2
 abbrev pub bevel_polygon : Side → Side → List Corner
-bevel_polygon a b = moved a.to (pos 0) (pos 0) ∷ outward a b a.normal.x a.normal.y ∷ outward a b b.normal.x b.normal.y ∷ []
+bevel_polygon a b = joint a ∷ outward a b a.normal.x a.normal.y ∷ outward a b b.normal.x b.normal.y ∷ []
 
 -- a bevelled join: nothing where the line goes straight on or back
 abbrev pub bevel : Side → Side → List (List Corner)
 bevel a b = if int_eq (cross a b) (pos 0) then [] else (bevel_polygon a b ∷ [])
 
 -- R² + n1·n2
-abbrev pub opening : ℕ → Side → Side → ℤ
+unfoldable pub opening : ℕ → Side → Side → ℤ
 opening r a b = pos (r * r) +ℤ (a.normal.x *ℤ b.normal.x +ℤ a.normal.y *ℤ b.normal.y)
 
 -- a coordinate of (n1 + n2)·R² / q
-abbrev pub tip : ℕ → ℤ → ℤ → ℤ → ℤ
+unfoldable pub tip : ℕ → ℤ → ℤ → ℤ → ℤ
 tip r u v q = nearest_quotient ((u +ℤ v) *ℤ pos (r * r)) (unsigned_abs q)
 
 -- the quadrangle P, P+s·n1, P+s·(n1+n2)·R²/q, P+s·n2
 abbrev pub miter_polygon : ℕ → Side → Side → List Corner
-miter_polygon r a b = moved a.to (pos 0) (pos 0) ∷ outward a b a.normal.x a.normal.y
+miter_polygon r a b = joint a ∷ outward a b a.normal.x a.normal.y
     ∷ outward a b (tip r a.normal.x b.normal.x (opening r a b)) (tip r a.normal.y b.normal.y (opening r a b))
     ∷ outward a b b.normal.x b.normal.y ∷ []
 
 -- whether the miter is within its limit m, which is in 1/256
-abbrev pub is_within : ℕ → Side → Side → Bool
+unfoldable pub is_within : ℕ → Side → Side → Bool
 is_within m a b = int_le (pos 131072 *ℤ pos (a.length * b.length)) (pos (m * m) *ℤ (pos (a.length * b.length) +ℤ dot a b))
 
+-- whether the line turns
+abbrev pub turns : Side → Side → Bool
+turns a b = not (int_eq (cross a b) (pos 0))
+
+-- whether the normals meet on the outer side
+abbrev pub is_open : ℕ → Side → Side → Bool
+is_open r a b = int_lt (pos 0) (opening r a b)
+
 -- whether the join has a miter
-abbrev pub has_miter : Pen → Side → Side → Bool
-has_miter pen a b = not (int_eq (cross a b) (pos 0)) && int_lt (pos 0) (opening pen.radius a b) && is_within pen.miter a b
+unfoldable pub has_miter : Pen → Side → Side → Bool
+has_miter pen a b = turns a b && is_open pen.radius a b && is_within pen.miter a b
 
 -- the join of two segments
 abbrev pub join_by : LineJoin → Pen → List Vector → Side → Side → List (List Corner)

@@ -54,7 +54,7 @@ pub(crate) fn length(dx: i64, dy: i64) -> u32
 }
 
 /// p / q, to the nearest whole number.
-pub(crate) fn nearest_quotient(p: i128, q: u128) -> i128
+pub fn nearest_quotient(p: i128, q: u128) -> i128
     requires dividend { unsigned_abs p ≤ 2 ^ 112 }
     requires positive { 0 < q }
     requires divisor { q < 2 ^ 112 }

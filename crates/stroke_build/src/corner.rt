@@ -1,8 +1,9 @@
 //! Corners of polygons.
-ghost use Rattle.std.specs.Prelude.{◌≡◌, ◌≤◌, ◌^◌, [], ◌∷◌, MatchOption, false, unsigned_abs};
+ghost use Rattle.std.specs.Prelude.{◌≡◌, ◌≤◌, ◌^◌, [], ◌∷◌, MatchOption, false, neg_ℤ, unsigned_abs};
 ghost use Rattle.stroke_build.specs.Corners.{is_near_corner, corner_of, moved};
 ghost use Rattle.stroke_build.specs.Drawing.{Draws, Makes};
 
+use crate::vector::Vector;
 use copy_lists::Sequence;
 use path_flat::FlatRefusal;
 use ps_shapes::{Point, Polygon, Polygons};
@@ -51,7 +52,7 @@ fn polygon(alloc: Global, corners: &[Corner]) -> Result<Polygon, FlatRefusal>
 }
 
 /// Adds the polygon with these corners.
-pub fn draw(
+pub(crate) fn draw(
     alloc: Global,
     polygons: &mut Polygons,
     corners: &[Corner],
@@ -63,7 +64,7 @@ pub fn draw(
 }
 
 /// The point moved by (x, y).
-pub fn moved(point: Point, x: i128, y: i128) -> Corner
+pub(crate) fn moved(point: Point, x: i128, y: i128) -> Corner
     requires x { unsigned_abs x ≤ 2 ^ 112 }
     requires y { unsigned_abs y ≤ 2 ^ 112 }
     ensures { result ≡ moved point x y }
@@ -72,4 +73,18 @@ pub fn moved(point: Point, x: i128, y: i128) -> Corner
         x: point.x as i128 + x,
         y: point.y as i128 + y,
     }
+}
+
+/// The point moved by a distance.
+pub(crate) fn around(point: Point, by: Vector) -> Corner
+    ensures { result ≡ moved point by.x by.y }
+{
+    moved(point, by.x as i128, by.y as i128)
+}
+
+/// The point moved the other way.
+pub(crate) fn opposite(point: Point, by: Vector) -> Corner
+    ensures { result ≡ moved point (neg_ℤ by.x) (neg_ℤ by.y) }
+{
+    moved(point, -(by.x as i128), -(by.y as i128))
 }

@@ -1,9 +1,10 @@
 //! The ends of subpaths.
-ghost use Rattle.std.specs.Prelude.{◌≡◌, ◌+◌, ◌^◌, ◌≤◌, ◌++◌, [], ◌∷◌, neg_ℤ, unsigned_abs, slice_get};
+ghost use Rattle.std.specs.Prelude.{◌≡◌, ◌+◌, ◌^◌, ◌≤◌, ◌++◌, ◌+ℤ◌, [], ◌∷◌, neg_ℤ, unsigned_abs, slice_get};
+ghost use Rattle.stroke_build.specs.Corners.{moved};
 ghost use Rattle.stroke_build.specs.Outlines as spec;
 ghost use Rattle.stroke_build.specs.Drawing.{Draws};
 
-use crate::corner::{draw, moved};
+use crate::corner::{Corner, around, draw, moved, opposite};
 use crate::joins::draw_join;
 use crate::pen::Pen;
 use crate::ring::draw_disc;
@@ -13,6 +14,17 @@ use path_flat::{FlatRefusal, Subpath};
 use ps_kinds::LineCap;
 use ps_shapes::{Point, Polygons};
 use std::alloc::Global;
+
+/// The point moved by (across, down), and then by (x, y).
+fn beyond(point: Point, across: i64, down: i64, x: i64, y: i64) -> Corner
+    requires across { unsigned_abs across ≤ 2 ^ 31 }
+    requires down { unsigned_abs down ≤ 2 ^ 31 }
+    requires x { unsigned_abs x ≤ 2 ^ 31 }
+    requires y { unsigned_abs y ≤ 2 ^ 31 }
+    ensures { result ≡ moved point (across +ℤ x) (down +ℤ y) }
+{
+    moved(point, (across + x) as i128, (down + y) as i128)
+}
 
 /// Draws the square end at a point: (x, y) is the pen's radius outward.
 fn draw_square(
@@ -27,15 +39,13 @@ fn draw_square(
     requires y { unsigned_abs y ≤ 2 ^ 31 }
     ensures { Draws (spec.square point normal x y ∷ []) polygons.old polygons.new result }
 {
-    let across = normal.x as i128;
-    let down = normal.y as i128;
-    let right = x as i128;
-    let below = y as i128;
+    let across = normal.x as i64;
+    let down = normal.y as i64;
     let corners = [
-        moved(point, across, down),
-        moved(point, across + right, down + below),
-        moved(point, -across + right, -down + below),
-        moved(point, -across, -down),
+        around(point, normal),
+        beyond(point, across, down, x, y),
+        beyond(point, -across, -down, x, y),
+        opposite(point, normal),
     ];
     draw(alloc, polygons, &corners)
 }

@@ -68,17 +68,30 @@ fn dot(a: Side, b: Side) -> i128
     sum_of(product(run(a), run(b)), product(fall(a), fall(b)))
 }
 
+/// Whether the outer side of the turn is against the normals.
+fn is_against(a: Side, b: Side) -> bool
+    ensures { result ≡ spec.is_against a b }
+{
+    cross(a, b) > 0
+}
+
+/// A coordinate of a distance to the outer side.
+fn outer(is_against: bool, z: i128) -> i128
+    requires { unsigned_abs z ≤ 2 ^ 112 }
+    ensures value { result ≡ spec.outer is_against z }
+    ensures bound { unsigned_abs result ≤ 2 ^ 112 }
+{
+    if is_against { -z } else { z }
+}
+
 /// The point of the join moved to the outer side of the turn.
 fn outward(a: Side, b: Side, x: i128, y: i128) -> Corner
     requires x { unsigned_abs x ≤ 2 ^ 112 }
     requires y { unsigned_abs y ≤ 2 ^ 112 }
     ensures { result ≡ spec.outward a b x y }
 {
-    if cross(a, b) > 0 {
-        moved(a.to, -x, -y)
-    } else {
-        moved(a.to, x, y)
-    }
+    let is_against = is_against(a, b);
+    moved(a.to, outer(is_against, x), outer(is_against, y))
 }
 
 /// The outer end of a segment's normal.
@@ -86,6 +99,13 @@ fn outer_end(a: Side, b: Side, normal: Vector) -> Corner
     ensures { result ≡ spec.outward a b normal.x normal.y }
 {
     outward(a, b, normal.x as i128, normal.y as i128)
+}
+
+/// The point of a join.
+fn joint(a: Side) -> Corner
+    ensures { result ≡ spec.joint a }
+{
+    moved(a.to, 0, 0)
 }
 
 fn draw_bevel(
@@ -101,7 +121,7 @@ fn draw_bevel(
     }
     let first = outer_end(a, b, a.normal);
     let second = outer_end(a, b, b.normal);
-    draw(alloc, polygons, &[moved(a.to, 0, 0), first, second])
+    draw(alloc, polygons, &[joint(a), first, second])
 }
 
 fn square(n: u32) -> i128
@@ -178,7 +198,7 @@ fn draw_miter(
     draw(
         alloc,
         polygons,
-        &[moved(a.to, 0, 0), first, outward(a, b, x, y), second],
+        &[joint(a), first, outward(a, b, x, y), second],
     )
 }
 
@@ -223,10 +243,26 @@ fn is_within(m: u32, a: Side, b: Side) -> bool
     scaled(lengths(a, b)) <= limited(limit(m), lengths(a, b), dot(a, b))
 }
 
+/// Whether the line turns.
+fn turns(a: Side, b: Side) -> bool
+    ensures { result ≡ spec.turns a b }
+{
+    cross(a, b) != 0
+}
+
+/// Whether the normals meet on the outer side.
+fn is_open(radius: u32, a: Side, b: Side) -> bool
+    requires { radius < 2 ^ 31 }
+    ensures { result ≡ spec.is_open radius a b }
+{
+    opening(radius, a, b) > 0
+}
+
+#[tactic(auto, unfolding(crate::specs::Outlines::has_miter))]
 fn has_miter(pen: Pen, a: Side, b: Side) -> bool
     ensures { result ≡ spec.has_miter pen a b }
 {
-    cross(a, b) != 0 && opening(pen.radius, a, b) > 0 && is_within(pen.miter, a, b)
+    turns(a, b) && is_open(pen.radius, a, b) && is_within(pen.miter, a, b)
 }
 
 /// Draws the join of two segments.

@@ -3,7 +3,7 @@ ghost use Rattle.std.specs.Prelude.{◌≡◌, ◌^◌, ◌≤◌, [], ◌∷◌
 ghost use Rattle.stroke_build.specs.Outlines as spec;
 ghost use Rattle.stroke_build.specs.Drawing.{Draws, Outlines};
 
-use crate::corner::{draw, moved};
+use crate::corner::{around, draw, opposite};
 use crate::ends::{draw_dot, draw_ends};
 use crate::joins::draw_joins;
 use crate::pen::Pen;
@@ -18,13 +18,11 @@ use std::alloc::Global;
 fn draw_side(alloc: Global, polygons: &mut Polygons, side: Side) -> Result<(), FlatRefusal>
     ensures { Draws (spec.side_polygon side ∷ []) polygons.old polygons.new result }
 {
-    let x = side.normal.x as i128;
-    let y = side.normal.y as i128;
     let corners = [
-        moved(side.from, x, y),
-        moved(side.to, x, y),
-        moved(side.to, -x, -y),
-        moved(side.from, -x, -y),
+        around(side.from, side.normal),
+        around(side.to, side.normal),
+        opposite(side.to, side.normal),
+        opposite(side.from, side.normal),
     ];
     draw(alloc, polygons, &corners)
 }

@@ -89,7 +89,7 @@ fn root(n: u128) -> u64
 
 /// The scale of the matrix, in counts of 2^-24.
 #[tactic(auto, unfolding(crate::specs::Pens::scale))]
-fn scale(m: &Matrix) -> u64
+pub fn scale(m: &Matrix) -> u64
     ensures { result ≡ scale m.now }
 {
     root(determinant(m).unsigned_abs())
@@ -106,7 +106,7 @@ fn half_width(width: u64, scale: u64) -> u128
 
 /// Half the width of a line under the matrix, in 1/256 pixel: at least half a pixel.
 #[tactic(auto, unfolding(crate::specs::Pens::radius_of))]
-pub fn radius(width: LineWidth, m: &Matrix) -> u128
+fn radius(width: LineWidth, m: &Matrix) -> u128
     ensures { result ≡ radius_of width m.now }
 {
     half_width(width.real().count as u64, scale(m)).max(THINNEST)

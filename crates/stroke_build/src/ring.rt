@@ -34,7 +34,7 @@ fn ring_corner(radius: u32, j: u32) -> Vector
 }
 
 /// The polygon around 0.
-#[tactic(auto, unfolding(crate::specs::Outlines::ring), using(crate::proofs::Walks::ring_more, crate::proofs::Walks::ring_none))]
+#[tactic(auto, unfolding(crate::specs::Outlines::ring))]
 pub(crate) fn ring(alloc: Global, radius: u32) -> Result<Vec<Vector>, NoMemory>
     requires { radius < 2 ^ 31 }
     ensures { IfOk result (λ v. v.items ≡ ring radius) }

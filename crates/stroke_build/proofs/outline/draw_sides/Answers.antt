@@ -1,3 +1,7 @@
+use Rattle.std.proofs.Common.{◌+◌, [], ◌∷◌, drop}
+use Rattle.std.specs.Prelude.{map}
+use Rattle.stroke_build.specs.Outlines.{side_polygon}
+use Rattle.stroke_build.proofs.Drawn.{passed_on}
 use Rattle.stroke_build.proofs.Outlining.{begun, gone_on, stopped, ended, sides_split, sides_past}
 use Rattle.stroke_build.proofs.outline.draw_sides.Goals as goal
 
@@ -7,7 +11,7 @@ loop-side-preserved c =
 
 pub returns-in_err-draw_side : goal.returns-in_err-draw_side
 returns-in_err-draw_side c =
-    stopped _ _ _ _ _ _ _ _ _ (sides_split c.args.sides.now c.loop-side.side-index c.side-item.result c.loop-side-test.true c.side-item.is) c.loop-side.invariant c.in_err-draw_side.ensures
+    stopped _ _ (side_polygon c.side-item.result ∷ []) (map side_polygon (drop (c.loop-side.side-index + 1) c.args.sides.now)) _ _ _ _ _ _ (passed_on _ _ c.from_residual.ensures) (sides_split c.args.sides.now c.loop-side.side-index c.side-item.result c.loop-side-test.true c.side-item.is) c.loop-side.invariant c.in_err-draw_side.ensures
 
 pub returns : goal.returns
 returns c = ended _ _ _ _ (sides_past c.args.sides.now c.loop-side.side-index c.loop-side-test.false) c.loop-side.invariant
