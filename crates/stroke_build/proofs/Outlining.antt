@@ -119,3 +119,7 @@ outlines_drawn polygons whole old new e none f =
 pub outlines_refused : (polygons whole : List (List Corner)) (result : Result (List (List Point)) FlatRefusal) (e : FlatRefusal) → polygons ≡ whole → result ≡ Err e → Refuses polygons e → Outlines whole result
 outlines_refused polygons whole result e same is f =
     subst (λ (r : Result (List (List Point)) FlatRefusal). Outlines whole r) (sym is) (subst (λ (l : List (List Corner)). Refuses l e) same f)
+
+pub rest_of : (ss : List Side) → take (length ss - 1) (drop 1 ss) ≡ drop 1 ss
+rest_of [] = refl
+rest_of (s ∷ ss) = take_all (length (s ∷ ss) - 1) ss (omega arith)

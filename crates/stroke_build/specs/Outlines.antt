@@ -165,7 +165,7 @@ dot_by line_cap.Round ring (Some p) = disc ring p ∷ []
 
 -- the outline of segments: the polygons of all, the joins, and what is at the ends
 abbrev pub outline_of : Pen → List Vector → Bool → Side → Side → List Side → List (List Corner)
-outline_of pen ring closed a b ss = map side_polygon ss ++ joins pen ring a (drop 1 ss) ++ ends pen ring closed a b
+outline_of pen ring closed a b ss = map side_polygon ss ++ (joins pen ring a (drop 1 ss) ++ ends pen ring closed a b)
 
 -- the outline of a subpath whose segments are known, with the first and the last of them
 abbrev pub outline_by : Pen → List Vector → Subpath → Option Side → Option Side → List Side → List (List Corner)

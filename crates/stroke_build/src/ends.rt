@@ -102,7 +102,6 @@ fn draw_end_cap(
 }
 
 /// Draws the join of a closed subpath's last segment to its first, or the caps of an open one.
-
 pub(crate) fn draw_ends(
     alloc: Global,
     polygons: &mut Polygons,

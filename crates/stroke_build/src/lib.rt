@@ -17,3 +17,6 @@ pub use outline::outlines;
 pub use pen::{Pen, pen_for, scale};
 pub use side::{Side, sides};
 pub use vector::Vector;
+
+#[cfg(test)]
+mod tests;

@@ -1,5 +1,5 @@
 //! Outlines of subpaths.
-ghost use Rattle.std.specs.Prelude.{◌≡◌, ◌^◌, ◌≤◌, [], ◌∷◌, length, map};
+ghost use Rattle.std.specs.Prelude.{◌≡◌, ◌^◌, ◌≤◌, [], ◌∷◌, length, drop, map};
 ghost use Rattle.stroke_build.specs.Outlines as spec;
 ghost use Rattle.stroke_build.specs.Drawing.{Draws, Outlines};
 
@@ -36,8 +36,23 @@ fn draw_sides(alloc: Global, polygons: &mut Polygons, sides: &[Side]) -> Result<
     Ok(())
 }
 
-/// Draws the polygons of the segments, the joins, and what is at the ends.
+/// Draws the joins between the segments, of which there is one at least.
+fn draw_turns(
+    alloc: Global,
+    polygons: &mut Polygons,
+    pen: Pen,
+    ring: &[Vector],
+    first: Side,
+    sides: &[Side],
+) -> Result<(), FlatRefusal>
+    requires { 1 ≤ length sides.now }
+    ensures { Draws (spec.joins pen ring.now first (drop 1 sides.now))
+        polygons.old polygons.new result }
+{
+    draw_joins(alloc, polygons, pen, ring, first, &sides[1..])
+}
 
+/// Draws the polygons of the segments, the joins, and what is at the ends.
 fn draw_along(
     alloc: Global,
     polygons: &mut Polygons,
@@ -53,7 +68,7 @@ fn draw_along(
         polygons.old polygons.new result }
 {
     draw_sides(alloc, polygons, sides)?;
-    draw_joins(alloc, polygons, pen, ring, first, &sides[1..])?;
+    draw_turns(alloc, polygons, pen, ring, first, sides)?;
     draw_ends(alloc, polygons, pen, ring, closed, first, last)
 }
 

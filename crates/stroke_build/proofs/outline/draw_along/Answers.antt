@@ -10,16 +10,16 @@ returns-in_err-draw_sides c =
     let ended = ends c.args.pen c.args.ring.now c.args.closed c.args.first c.args.last in
     drawn_first (map side_polygon c.args.sides.now) (turned ++ ended) c.args.polygons.now _ _ _ (passed_on _ _ c.from_residual.ensures) c.in_err-draw_sides.ensures
 
-pub returns-in_err-draw_joins : goal.returns-in_err-draw_joins
-returns-in_err-draw_joins c =
+pub returns-in_err-draw_turns : goal.returns-in_err-draw_turns
+returns-in_err-draw_turns c =
     let turned = joins c.args.pen c.args.ring.now c.args.first (drop 1 c.args.sides.now) in
     let ended = ends c.args.pen c.args.ring.now c.args.closed c.args.first c.args.last in
     drawn_both (map side_polygon c.args.sides.now) (turned ++ ended) c.args.polygons.now c.draw_sides.new.polygons _ _ c.in_ok-draw_sides.ensures
-    (drawn_first turned ended c.draw_sides.new.polygons _ _ _ (passed_on _ _ c.from_residual-in_err-draw_joins.ensures) c.in_err-draw_joins.ensures)
+    (drawn_first turned ended c.draw_sides.new.polygons _ _ _ (passed_on _ _ c.from_residual-in_err-draw_turns.ensures) c.in_err-draw_turns.ensures)
 
 pub returns : goal.returns
 returns c =
     let turned = joins c.args.pen c.args.ring.now c.args.first (drop 1 c.args.sides.now) in
     let ended = ends c.args.pen c.args.ring.now c.args.closed c.args.first c.args.last in
     drawn_both (map side_polygon c.args.sides.now) (turned ++ ended) c.args.polygons.now c.draw_sides.new.polygons _ _ c.in_ok-draw_sides.ensures
-    (drawn_both turned ended c.draw_sides.new.polygons c.draw_joins.new.polygons _ _ c.in_ok-draw_joins.ensures c.draw_ends.ensures)
+    (drawn_both turned ended c.draw_sides.new.polygons c.draw_turns.new.polygons _ _ c.in_ok-draw_turns.ensures c.draw_ends.ensures)
