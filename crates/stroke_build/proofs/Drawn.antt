@@ -1,12 +1,12 @@
 -- Polygons drawn one after the other.
-use Rattle.std.proofs.Common.{◌≡◌, ℕ, ◌+◌, ◌<◌, Bool, true, false, List, [], ◌∷◌, ◌++◌, length, get_or, take, refl, ap, subst, sym, ◌∙◌, append_assoc, arith}
-use Rattle.std.specs.Prelude.{Result, Ok, Err, map, ◌&&◌}
+use Rattle.std.proofs.Common.{◌≡◌, Bool, true, false, List, [], ◌∷◌, ◌++◌, refl, ap, subst, sym, ◌∙◌, append_assoc}
+use Rattle.std.specs.Prelude.{Result, Ok, Err, ◌&&◌}
 use Rattle.std.specs.Result.{IsErr, IsErrAnd}
 use Rattle.ps_shapes.specs.declared.polygon.Point.{Point}
 use Rattle.stroke_build.specs.declared.corner.Corner.{Corner}
 use Rattle.path_flat.specs.declared.refusal.FlatRefusal.{FlatRefusal}
 use Rattle.path_flat.specs.declared.refusal.FlatRefusal.TheVariants as refusal
-use Rattle.stroke_build.specs.Corners.{is_near_corner, is_near_polygon, are_near, places}
+use Rattle.stroke_build.specs.Corners.{is_near_polygon, are_near, places}
 use Rattle.stroke_build.specs.Drawing.{Draws, Refuses}
 use Rattle.std.proofs.lemmas.List.{append-nil}
 

@@ -1,8 +1,7 @@
 -- Outlines drawn part by part.
-use Rattle.std.proofs.Common.{◌≡◌, ℕ, zero, ◌+◌, ◌-◌, ◌<◌, ◌≤◌, ◌&&◌, suc, ap₂, Bool, true, false, List, [], ◌∷◌, ◌++◌, length, get_or, take, drop, refl, ap, subst, sym, ◌∙◌, append_assoc, arith}
-use Rattle.std.specs.Prelude.{Result, Ok, Err, map, pos, negsuc, int_le, T}
-use Rattle.std.proofs.lemmas.List.{append-nil, map-append, nil_from_length, length-drop, take_more, take_all}
-use Rattle.std.proofs.Math.Seq.{drop-cons}
+use Rattle.std.proofs.Common.{◌≡◌, ℕ, ◌+◌, ◌-◌, ◌<◌, ◌≤◌, ◌&&◌, ap₂, Bool, true, false, List, [], ◌∷◌, ◌++◌, length, get_or, take, drop, refl, ap, subst, sym, ◌∙◌, append_assoc, arith}
+use Rattle.std.specs.Prelude.{Result, Err, map, pos, negsuc, int_le, T}
+use Rattle.std.proofs.lemmas.List.{append-nil, take_all}
 use Rattle.ps_shapes.specs.declared.polygon.Point.{Point}
 use Rattle.stroke_build.specs.declared.corner.Corner.{Corner}
 use Rattle.path_flat.specs.declared.refusal.FlatRefusal.{FlatRefusal}
@@ -15,7 +14,7 @@ use Rattle.stroke_build.specs.Corners.{are_near, places, is_near_corner, is_near
 use Rattle.stroke_build.specs.Drawing.{Draws, Refuses, Outlines}
 use Rattle.std.specs.List.{range_with_len}
 use Rattle.std.proofs.lemmas.List.FromFn.{map-range_with_len_more}
-use Rattle.stroke_build.specs.Sides.{side_between, sides_after, sides}
+use Rattle.stroke_build.specs.Sides.{sides}
 use Rattle.stroke_build.specs.Outlines.{side_polygon, ring_corner, ring, join, joins, outline_along, outline, outlines_by, outlines, caps, ends}
 use Rattle.stroke_build.proofs.Drawn.{far_front, far_back}
 use Rattle.stroke_build.proofs.Walks.{drop_step, drop_past}
@@ -100,6 +99,7 @@ near_corner p = by (int_le (negsuc 1073741823) p.x) (int_le p.x (pos 1073741824)
     known : (b : Bool) → T b → b ≡ true
     known true t = refl
     known false t = absurd t
+
     by : (a b c d : Bool) → a ≡ true → b ≡ true → c ≡ true → d ≡ true → ((a && b) && (c && d)) ≡ true
     by a b c d e f g h = ap₂ ◌&&◌ (ap₂ ◌&&◌ e f) (ap₂ ◌&&◌ g h)
 

@@ -1,6 +1,6 @@
 -- The polygons that a pen draws along flattened subpaths: segments, joins and caps (section 4.5.1 of the language manual). The numbers and
 -- their rounding are the project's own rule, since the manual sets none.
-use Rattle.std.specs.Prelude.{ℕ, ℤ, pos, ◌+◌, ◌-◌, ◌*◌, ◌^◌, ◌+ℤ◌, ◌-ℤ◌, ◌*ℤ◌, neg_ℤ, ◌&&◌, not, Bool, true, false, List, [], ◌∷◌, ◌++◌, map, length, slice_get, drop, Option, Some, None, int_le, int_lt, unsigned_abs, if◌then◌else◌}
+use Rattle.std.specs.Prelude.{ℕ, ℤ, pos, ◌-◌, ◌*◌, ◌^◌, ◌+ℤ◌, ◌-ℤ◌, ◌*ℤ◌, neg_ℤ, ◌&&◌, not, Bool, List, [], ◌∷◌, ◌++◌, map, length, slice_get, drop, Option, Some, None, int_le, int_lt, unsigned_abs, if◌then◌else◌}
 use Rattle.std.specs.List.{range_with_len}
 use Rattle.std.specs.Ordering.{int_eq}
 use Rattle.ps_shapes.specs.declared.polygon.Point.{Point}

@@ -108,12 +108,7 @@ fn joint(a: Side) -> Corner
     moved(a.to, 0, 0)
 }
 
-fn draw_bevel(
-    alloc: Global,
-    polygons: &mut Polygons,
-    a: Side,
-    b: Side,
-) -> Result<(), FlatRefusal>
+fn draw_bevel(alloc: Global, polygons: &mut Polygons, a: Side, b: Side) -> Result<(), FlatRefusal>
     ensures { Draws (spec.bevel a b) polygons.old polygons.new result }
 {
     if cross(a, b) == 0 {

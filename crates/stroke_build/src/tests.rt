@@ -56,21 +56,37 @@ fn is_at(polygon: Option<&Polygon>, place: usize, x: i32, y: i32) -> bool {
 #[test]
 fn a_corner_is_drawn(rt: HostRuntime) -> Result<(), Fail> {
     let open = corner(rt.alloc(), false)?;
-    let mitred = outlines(rt.alloc(), pen(LineCap::Butt, LineJoin::Miter), open.as_slice())?;
+    let mitred = outlines(
+        rt.alloc(),
+        pen(LineCap::Butt, LineJoin::Miter),
+        open.as_slice(),
+    )?;
     assert!(rt; mitred.len() == 3);
     assert!(rt; is_at(mitred.get(0), 1, 2560, 128));
     assert!(rt; is_at(mitred.get(1), 0, 2432, 0));
     assert!(rt; is_at(mitred.get(2), 2, 2688, -128));
-    let bevelled = outlines(rt.alloc(), pen(LineCap::Square, LineJoin::Bevel), open.as_slice())?;
+    let bevelled = outlines(
+        rt.alloc(),
+        pen(LineCap::Square, LineJoin::Bevel),
+        open.as_slice(),
+    )?;
     assert!(rt; bevelled.len() == 5);
     assert!(rt; is_at(bevelled.get(2), 2, 2688, 0));
     assert!(rt; is_at(bevelled.get(3), 1, -128, 128));
-    let rounded = outlines(rt.alloc(), pen(LineCap::Round, LineJoin::Round), open.as_slice())?;
+    let rounded = outlines(
+        rt.alloc(),
+        pen(LineCap::Round, LineJoin::Round),
+        open.as_slice(),
+    )?;
     assert!(rt; rounded.len() == 5);
     assert!(rt; is_at(rounded.get(2), 4, 2651, 91));
     assert!(rt; is_at(rounded.get(2), 32, 0, 0) == false);
     let closed = corner(rt.alloc(), true)?;
-    let around = outlines(rt.alloc(), pen(LineCap::Round, LineJoin::Bevel), closed.as_slice())?;
+    let around = outlines(
+        rt.alloc(),
+        pen(LineCap::Round, LineJoin::Bevel),
+        closed.as_slice(),
+    )?;
     assert!(rt; around.len() == 6);
     Ok(())
 }

@@ -1,8 +1,7 @@
-use Rattle.std.proofs.Common.{◌∙◌, ◌≡◌, ap, ap₂, refl, arith, rules}
-use Rattle.std.specs.Prelude.{ℤ, pos}
-use Rattle.std.proofs.lemmas.Int.{ints, to_z-of_z}
-use mir.Val.{SFits, to_z, of_z}
-use mir.Syntax.{w32, w64, w128}
+use Rattle.std.proofs.Common.{◌∙◌, rules}
+use Rattle.std.proofs.lemmas.Int.{to_z-of_z}
+use mir.Val.{SFits}
+use mir.Syntax.{w64, w128}
 use Rattle.stroke_build.proofs.Joining.{cross_is}
 use Rattle.stroke_build.proofs.joins.cross.Goals as goal
 

@@ -1,8 +1,5 @@
-use Rattle.std.proofs.Common.{◌∙◌, ◌≡◌, ap, ap₂, refl, arith, rules}
-use Rattle.std.specs.Prelude.{ℤ, pos}
-use Rattle.std.proofs.lemmas.Int.{ints, to_z-of_z}
-use mir.Val.{SFits, to_z, of_z}
-use mir.Syntax.{w32, w64, w128}
+use Rattle.std.proofs.Common.{arith}
+use Rattle.std.proofs.lemmas.Int.{ints}
 use Rattle.stroke_build.proofs.Drawn.{drawn_as, nothing_drawn}
 use Rattle.stroke_build.proofs.Joining.{bevel_none, bevel_some}
 use Rattle.stroke_build.proofs.joins.draw_bevel.Goals as goal

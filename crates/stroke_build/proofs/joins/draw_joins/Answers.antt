@@ -1,5 +1,4 @@
-use Rattle.std.proofs.Common.{◌+◌, [], ◌∷◌, drop}
-use Rattle.std.specs.Prelude.{map}
+use Rattle.std.proofs.Common.{◌+◌, drop}
 use Rattle.stroke_build.specs.Outlines.{join, joins}
 use Rattle.stroke_build.proofs.Drawn.{passed_on}
 use Rattle.stroke_build.proofs.Outlining.{begun, gone_on, stopped, ended, joins_split, joins_past}

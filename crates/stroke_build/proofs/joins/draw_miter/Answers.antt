@@ -1,9 +1,8 @@
-use Rattle.std.proofs.Common.{◌∙◌, ◌≡◌, ap, ap₂, refl, arith, rules}
-use Rattle.std.specs.Prelude.{ℤ, pos}
+use Rattle.std.proofs.Common.{◌∙◌, ◌≡◌, arith, rules}
 use Rattle.std.proofs.lemmas.Int.{ints, to_z-of_z}
 use mir.Val.{SFits, to_z, of_z}
-use mir.Syntax.{w32, w64, w128}
-use Rattle.stroke_build.specs.Outlines.{outward, tip}
+use mir.Syntax.{w32, w128}
+use Rattle.stroke_build.specs.Outlines.{tip}
 use Rattle.stroke_build.proofs.Drawn.{drawn_as}
 use Rattle.stroke_build.proofs.Joining.{miter_is, tip_at}
 use Rattle.stroke_build.proofs.joins.draw_miter.Goals as goal

@@ -1,6 +1,6 @@
-use Rattle.std.proofs.Common.{◌∙◌, ◌≡◌, ap, ap₂, refl, arith, rules}
-use Rattle.std.specs.Prelude.{ℤ, pos, ◌*ℤ◌}
-use Rattle.std.proofs.lemmas.Int.{ints, to_z-of_z}
+use Rattle.std.proofs.Common.{◌∙◌, ◌≡◌, ap, ap₂, refl, rules}
+use Rattle.std.specs.Prelude.{ℤ, ◌*ℤ◌}
+use Rattle.std.proofs.lemmas.Int.{to_z-of_z}
 use mir.Val.{SFits, to_z, of_z}
 use mir.Syntax.{w32, w64, w128}
 use Rattle.stroke_build.proofs.Joining.{opening_is}

@@ -1,4 +1,4 @@
-use Rattle.std.proofs.Common.{◌∙◌, ap, List, ◌++◌, [], ◌∷◌}
+use Rattle.std.proofs.Common.{◌∙◌, ap, ◌++◌, [], ◌∷◌}
 use Rattle.stroke_build.specs.declared.vector.Vector.{Vector}
 use Rattle.stroke_build.proofs.Outlining.{ring_more}
 use Rattle.stroke_build.proofs.ring.ring.Goals as goal
