@@ -1,5 +1,5 @@
-//! The polygons that a stroke paints: what a round or angular pen draws along flattened subpaths (section 4.5.1 of the
-//! language manual).
+//! The polygons that a stroke without dashes paints: what a pen draws along flattened subpaths (section 4.5.1 of the
+//! language manual). The numbers and their rounding are the project's own rule, since the manual sets none.
 #![tactic(auto)]
 
 mod arithmetic;
