@@ -76,8 +76,8 @@ module _ (m : Matrix) (path : List Segment) (ns : List Real) (n : ℕ) (r : Rect
       next : 4 * n + 4 ≡ 4 * (n + 1)
       next = omega arith
 
-  pub rectangle_drawn : (k : Corners) (new whole : List Segment) → Ok k ≡ corners_of m r → new ≡ path ++ outline k → drawn_behind m path (drop (4 * n) ns) ≡ drawn_behind m new (drop (4 * (n + 1)) ns)
-  rectangle_drawn k new whole e f = drawn_at (Ok k) e ∙ ap (λ (p : List Segment). drawn_behind m p (drop (4 * (n + 1)) ns)) (sym f)
+  pub rectangle_drawn : (k : Corners) (new : List Segment) → Ok k ≡ corners_of m r → new ≡ path ++ outline k → drawn_behind m path (drop (4 * n) ns) ≡ drawn_behind m new (drop (4 * (n + 1)) ns)
+  rectangle_drawn k new e f = drawn_at (Ok k) e ∙ ap (λ (p : List Segment). drawn_behind m p (drop (4 * (n + 1)) ns)) (sym f)
 
   pub rectangle_refused : (error : ErrorName) → Err error ≡ corners_of m r → drawn_behind m path (drop (4 * n) ns) ≡ drawn_behind m [] ns → drawn_behind m [] ns ≡ Err error
   rectangle_refused error e p = sym p ∙ drawn_at (Err error) e

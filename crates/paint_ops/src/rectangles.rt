@@ -10,7 +10,7 @@ use crate::painting::paint_polygons;
 use ps_fixed::sub;
 use ps_kinds::{
     DevicePoint, ErrorName, Interval, Kind, Matrix, NoMemory, Number, Object, Objects, Operands,
-    Path, Polygons, Real, Refusal, Rule, Segment, State,
+    Path, Polygons, Real, Refusal, Rule, Segment, Sequence, State,
 };
 use ps_operator::{Mem, items_of};
 use real_operands::{as_real, defined, moved, placed, point_at};
@@ -82,7 +82,6 @@ fn rectangle_at(numbers: &[Real], at: usize) -> Rectangle
 }
 
 /// The path of rectangles, four numbers each: undefinedresult, limitcheck.
-#[tactic(auto, using(crate::proofs::Drawing::rectangle_drawn, crate::proofs::Drawing::rectangle_refused, crate::proofs::Drawing::rectangles_drawn))]
 fn path_of(alloc: Global, matrix: &Matrix, numbers: &[Real]) -> Result<Path, Refusal>
     ensures { Reads (spec.drawn_behind matrix.now [] numbers.now) result }
 {
@@ -133,10 +132,10 @@ fn real_in(kind: &Kind) -> Result<Real, ErrorName>
 
 /// The numbers that items are: typecheck.
 #[tactic(auto, using(crate::proofs::Drawing::real_read, crate::proofs::Drawing::real_refused, crate::proofs::Drawing::reals_read))]
-fn reals_of(alloc: Global, items: &[Object]) -> Result<Vec<Real>, Refusal>
+fn reals_of(alloc: Global, items: &[Object]) -> Result<Sequence<Real>, Refusal>
     ensures { Reads (spec.reals_behind [] items.now) result }
 {
-    let mut reals = Vec::new(alloc);
+    let mut reals = Sequence::new(alloc);
     for at in 0..items.len() {
         match real_in(&items[at].kind) {
             Ok(real) => reals.push(real)?,
