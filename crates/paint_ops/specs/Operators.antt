@@ -1,5 +1,5 @@
 -- The operators of this crate.
-use Rattle.std.specs.Prelude.{ℕ, Bool, ◌&&◌, ◌||◌, nat_eq, nat_le, [], ◌∷◌}
+use Rattle.std.specs.Prelude.{ℕ, Bool, not, ◌&&◌, ◌||◌, nat_eq, nat_le, [], ◌∷◌}
 use Rattle.ps_names.specs.declared.places.TheConstants as at
 use Rattle.ps_kinds.specs.declared.state.State.{State}
 use Rattle.ps_operator.specs.Tree.{Ask}
@@ -15,17 +15,16 @@ operators =
     (at.FILL, fill) ∷ (at.EOFILL, eofill) ∷ (at.RECTFILL, rectfill)
     ∷ (at.ERASEPAGE, erasepage) ∷ (at.SHOWPAGE, showpage) ∷ (at.COPYPAGE, copypage) ∷ []
 
--- those that give the page out
-abbrev pub is_giving : ℕ → Bool
-is_giving n = nat_eq n at.SHOWPAGE || nat_eq n at.COPYPAGE
-
--- the others
-abbrev pub is_plain : ℕ → Bool
-is_plain n = nat_eq n at.FILL || nat_eq n at.EOFILL || nat_eq n at.RECTFILL || nat_eq n at.ERASEPAGE
-
--- each of them
+-- they stand in three parts of the list of operators
 abbrev pub belongs : ℕ → Bool
-belongs n = is_plain n || is_giving n
+belongs n =
+    nat_le at.FILL n && nat_le n at.EOFILL
+    || nat_eq n at.RECTFILL
+    || nat_le at.ERASEPAGE n && nat_le n at.COPYPAGE
+
+-- all but those that give the page out are done where they aren't refused
+abbrev pub is_plain : ℕ → Bool
+is_plain n = belongs n && not (nat_eq n at.SHOWPAGE) && not (nat_eq n at.COPYPAGE)
 
 -- what the operator at a place does
 abbrev pub run : ℕ → State → Ask

@@ -97,7 +97,7 @@ fn path_of(alloc: Global, matrix: &Matrix, numbers: &[Real]) -> Result<Path, Ref
 
 /// The polygons of rectangles, four numbers each: undefinedresult, limitcheck.
 #[tactic(auto, unfolding(crate::specs::Rectangles::rectangle_polygons))]
-fn rectangle_polygons(
+pub(crate) fn rectangle_polygons(
     alloc: Global,
     matrix: &Matrix,
     numbers: &[Real],

@@ -1,7 +1,7 @@
 //! The operators of this crate by their places in the list of operators.
 ghost use Rattle.std.specs.Prelude.{◌≡◌, true};
 ghost use Rattle.ps_meaning.specs.Ready.{Ready, ReadyIn};
-ghost use Rattle.ps_operator.specs.Owes.{ActsAlone, Does, Runs};
+ghost use Rattle.ps_operator.specs.Owes.{Does, Runs};
 ghost use Rattle.paint_ops.specs.Operators as spec;
 
 use crate::filling::{eofill, fill};
@@ -11,28 +11,14 @@ use ps_kinds::{Act, NoMemory, Op, Refusal, State};
 use ps_names::places;
 use ps_operator::{Mem, told, told_done};
 
-/// Whether an operator gives the page out.
-fn is_giving(place: u16) -> bool
-    ensures { result ≡ spec.is_giving place }
-{
-    place == places::SHOWPAGE || place == places::COPYPAGE
-}
-
-/// Whether it is another of this crate.
-fn is_plain(place: u16) -> bool
-    ensures { result ≡ spec.is_plain place }
-{
-    place == places::FILL
-        || place == places::EOFILL
-        || place == places::RECTFILL
-        || place == places::ERASEPAGE
-}
-
 /// Whether an operator is one of this crate.
 pub fn belongs(op: Op, _state: &State) -> bool
     ensures { result ≡ spec.belongs op }
 {
-    is_plain(op.index()) || is_giving(op.index())
+    let place = op.index();
+    places::FILL <= place && place <= places::EOFILL
+        || place == places::RECTFILL
+        || places::ERASEPAGE <= place && place <= places::COPYPAGE
 }
 
 /// The operators whose act is always that they are done.
