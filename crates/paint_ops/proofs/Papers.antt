@@ -25,8 +25,8 @@ use Rattle.ps_meaning.specs.Ready.{Ready}
 use Rattle.ps_meaning.specs.Sound.{Size, size_of}
 use Rattle.ps_meaning.specs.Registers.{size_of_page}
 use Rattle.ps_meaning.proofs.Looks.{laying_law}
-use Rattle.vm_mem.specs.Conditions.{is_here, page_is_here, MayLay}
-use Rattle.vm_mem.proofs.Conditions.{may_lay}
+use Rattle.vm_mem.specs.Conditions.{is_here, MayLay}
+use Rattle.vm_mem.proofs.Conditions.{here_now, may_lay}
 use Rattle.ps_operator.specs.Registers.{quiet}
 use Rattle.ps_operator.proofs.Standing.{page_stands}
 use Rattle.colour_ops.specs.Colours.{gray_of}
@@ -88,25 +88,29 @@ pub not_painted : (s : State) (rule : Rule) (polygons : List (List Point)) (log 
 unfolding painted_in
 not_painted s rule polygons log e = sym (ap (λ (b : Bool). cond b log (repainted_in (painted_on s.regs.state rule polygons) log)) e)
 
-pub is_painted_so : (s : State) (rule : Rule) (polygons : List (List Point)) (spans : List Span) (lists : List (List Span)) (gray : Real) (thresholds : Screen) (old new : Log)
-    → Ready s old.view → is_measured s.frames ≡ false
-    → HoldsExactly s.regs.state.wide s.regs.state.high (covers polygons rule) spans → HoldClips s.regs.state.wide s.regs.state.high s.regs.state.clips lists
-    → gray ≡ gray_of s.regs.state.colour → thresholds ≡ s.regs.state.thresholds
-    → new ≡ repainted_in (λ p. painted p (clipped spans lists) gray.count thresholds) old → new ≡ painted_in s rule polygons old
+pub is_painted_so : (s : State) (rule : Rule) (polygons : List (List Point)) (spans : List Span) (lists : List (List Span)) (gray : Real) (width height : ℕ) (old new : Log)
+    → Ready s old.view → is_measured s.frames ≡ false → width ≡ s.regs.state.wide → height ≡ s.regs.state.high
+    → HoldsExactly width height (covers polygons rule) spans → HoldClips width height s.regs.state.clips lists → gray ≡ gray_of s.regs.state.colour
+    → new ≡ repainted_in (λ p. painted p (clipped spans lists) gray.count s.regs.state.thresholds) old → new ≡ painted_in s rule polygons old
 unfolding painted_in repainted_in
-is_painted_so s rule polygons spans lists gray thresholds old new r m h g a b e =
+is_painted_so s rule polygons spans lists gray width height old new r m wide high h g a e =
     e
     ∙ go old.view.page (sized s old r old.view.page refl)
     ∙ sym (ap (λ (b : Bool). cond b old (relaid (painted_on s.regs.state rule polygons) old.view.page old)) m)
   where
+    exact : HoldsExactly s.regs.state.wide s.regs.state.high (covers polygons rule) spans
+    exact = subst (λ w. HoldsExactly w s.regs.state.high (covers polygons rule) spans) wide (subst (λ v. HoldsExactly width v (covers polygons rule) spans) high h)
+
+    clips : HoldClips s.regs.state.wide s.regs.state.high s.regs.state.clips lists
+    clips = subst (λ w. HoldClips w s.regs.state.high s.regs.state.clips lists) wide (subst (λ v. HoldClips width v s.regs.state.clips lists) high g)
+
     go : (page : Page) → size_of_page page ≡ record { width = s.regs.state.wide; height = s.regs.state.high }
-        → relaid (λ p. painted p (clipped spans lists) gray.count thresholds) page old ≡ relaid (painted_on s.regs.state rule polygons) page old
+        → relaid (λ p. painted p (clipped spans lists) gray.count s.regs.state.thresholds) page old ≡ relaid (painted_on s.regs.state rule polygons) page old
     go (here p) z =
         ap (λ (q : Sheet). acted_in (looked_in old loc.Paper) (store loc.Paper (value.Paper q)))
-        (as_said s old r rule polygons spans lists h g p z gray thresholds
-        ∙ ap (λ (c : Real). painted p (is_painted s.regs.state rule polygons) c.count thresholds) a
-        ∙ ap (λ (t : Screen). painted p (is_painted s.regs.state rule polygons) (gray_of s.regs.state.colour).count t) b)
-    go (out w h) z = refl
+        (as_said s old r rule polygons spans lists exact clips p z gray s.regs.state.thresholds
+        ∙ ap (λ (c : Real). painted p (is_painted s.regs.state rule polygons) c.count s.regs.state.thresholds) a)
+    go (out w v) z = refl
 
 -- ---- what that is in a tree
 
@@ -126,11 +130,7 @@ paints_so s after rule polygons old new r e =
     change : Sheet → Sheet
     change = painted_on s.regs.state rule polygons
 
-    page_here : is_here old.view.page ≡ true
-    unfolding page_is_here
-    page_here = page_stands s old.view r
-
     go : (b : Bool) → answer_over s.frames (cond b (done [] (quiet after)) (repaints change after)) s old
         ≡ record { act = act.Done; state = state_done 0 s.frames s (quiet after); log = cond b old (relaid change old.view.page old) }
     go true = refl
-    go false = repaints_over s.frames change s after old old.view.page page_here
+    go false = repaints_over s.frames change s after old old.view.page (here_now old.view (page_stands s old.view r))

@@ -7,7 +7,7 @@ use ps_kinds::{Clips, NoMemory, SpansList};
 use std::alloc::Global;
 
 /// The pixels of each clip, on a paper of that size.
-#[tactic(auto, using(crate::proofs::Covering::no_clips, crate::proofs::Covering::one_clip_more, crate::proofs::Covering::all_clips))]
+#[tactic(auto, using(crate::proofs::Clipping::no_clips, crate::proofs::Clipping::one_clip_more, crate::proofs::Clipping::all_clips))]
 pub(crate) fn spans_of_clips(
     alloc: Global,
     clips: &Clips,

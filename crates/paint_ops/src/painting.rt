@@ -16,7 +16,7 @@ use ps_operator::Mem;
 use ps_paper::paint;
 
 /// Lifts the paper, paints the pixels that are in the spans and in all clips, and lays it back.
-#[tactic(auto, using(crate::proofs::Papers::lies_on, crate::proofs::Papers::may_lay_painted, crate::proofs::Papers::is_repainted))]
+#[tactic(auto, using(crate::proofs::Papers::lies_on, crate::proofs::Papers::may_lay_painted))]
 fn repaint<M: Mem>(
     mem: &mut M,
     spans: &Spans,
@@ -37,7 +37,7 @@ fn repaint<M: Mem>(
 
 /// Paints polygons by a rule, in the gray of the colour and inside all clips. While a string is only measured, it does nothing. All that
 /// may fail comes before the paper is lifted.
-#[tactic(auto, using(ps_operator::proofs::Standing::page_stands, crate::proofs::Papers::spans_lie, crate::proofs::Papers::not_painted, crate::proofs::Papers::is_painted_so))]
+#[tactic(auto, using(ps_operator::proofs::Standing::page_stands, crate::proofs::Papers::spans_lie, crate::proofs::Papers::not_painted))]
 pub(crate) fn paint_polygons<M: Mem>(
     state: &State,
     rule: Rule,
@@ -58,5 +58,6 @@ pub(crate) fn paint_polygons<M: Mem>(
     let spans = cover(alloc, polygons, rule, width, height)?;
     let clips = spans_of_clips(alloc, &graphics.clips, width, height)?;
     let gray = gray_of(graphics.colour).real();
-    repaint(mem, &spans, &clips, gray, &graphics.thresholds)
+    repaint(mem, &spans, &clips, gray, &graphics.thresholds)?;
+    Ok(())
 }
