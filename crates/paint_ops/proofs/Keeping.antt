@@ -1,5 +1,5 @@
 -- Each operator keeps a state that fits: its tree again, with what fits beside each end.
-use Rattle.std.proofs.Common.{◌≡◌, ℕ, ◌+◌, ◌<◌, Bool, true, false, cond, List, [], ◌∷◌, drop, refl, sym, ◌∙◌, arith}
+use Rattle.std.proofs.Common.{◌≡◌, ℕ, ◌<◌, Bool, true, false, cond, List, [], ◌∷◌, drop, refl, sym, ◌∙◌, arith}
 use Rattle.ps_names.specs.declared.places.TheConstants as at
 use Rattle.ps_shapes.specs.Sheet.{Sheet}
 use Rattle.ps_shapes.specs.declared.numbers.Real.{Real}
@@ -27,7 +27,6 @@ use Rattle.ps_operator.proofs.Lawful.{read_keeps}
 use Rattle.ps_operator.proofs.Running.{◌▹◌, all_lawful}
 use Rattle.ps_operator.proofs.Seeking.{Any, seeking_keeps}
 use Rattle.real_operands.specs.Points.{point_at}
-use Rattle.gstate.specs.Beginning.{begun}
 use Rattle.gstate.proofs.Keeping.{run_keeps as graphics_keep}
 use Rattle.gstate.proofs.Looking.{items_seek}
 use Rattle.paint_ops.specs.Filling.{without_path, fills, fill, eofill}

@@ -1,10 +1,8 @@
 -- The paper that is lifted, painted and laid, and what that is in a tree.
 use Rattle.std.proofs.Common.{◌≡◌, ℕ, ◌<◌, ◌&&◌, Bool, true, false, cond, List, [], ◌∷◌, refl, ap, sym, ◌∙◌, subst, true≢false}
-use Rattle.std.specs.Bool.{⊤}
-use Rattle.ps_shapes.specs.Sheet.{Sheet, drawn, pixel}
+use Rattle.ps_shapes.specs.Sheet.{Sheet, pixel}
 use Rattle.ps_shapes.specs.Screen.{Screen}
-use Rattle.ps_shapes.specs.Span.{is_in, is_in_all, IsOnPaper}
-use Rattle.ps_shapes.specs.declared.clip.Clip.{Clip}
+use Rattle.ps_shapes.specs.Span.{is_in_all, IsOnPaper}
 use Rattle.ps_shapes.specs.declared.polygon.Point.{Point}
 use Rattle.ps_shapes.specs.declared.polygon.Rule.{Rule}
 use Rattle.ps_shapes.specs.declared.span.Span.{Span}
@@ -18,9 +16,9 @@ use Rattle.ps_objects.specs.declared.place.Value.TheVariants as value
 use Rattle.ps_kinds.specs.declared.act.Act.TheVariants as act
 use Rattle.ps_kinds.specs.declared.frame.Frame.{Frame}
 use Rattle.ps_kinds.specs.declared.state.State.{State}
-use Rattle.ps_memory.specs.Memory.{Memory, Page, here, out, store, value_found, page_found}
+use Rattle.ps_memory.specs.Memory.{Page, here, out, store, value_found, page_found}
 use Rattle.ps_memory.specs.Tree.{done, lays}
-use Rattle.ps_meaning.specs.Answer.{Log, looked_in, acted_in, lifted_in, Answer, answer_over, state_done}
+use Rattle.ps_meaning.specs.Answer.{Log, looked_in, acted_in, lifted_in, answer_over, state_done}
 use Rattle.ps_meaning.specs.Ready.{Ready}
 use Rattle.ps_meaning.specs.Sound.{Size, size_of}
 use Rattle.ps_meaning.specs.Registers.{size_of_page}
@@ -32,7 +30,7 @@ use Rattle.ps_operator.proofs.Standing.{page_stands}
 use Rattle.colour_ops.specs.Colours.{gray_of}
 use Rattle.paint_ops.specs.Covering.{HoldClips, LieOn}
 use Rattle.paint_ops.specs.Measuring.{is_measured}
-use Rattle.paint_ops.specs.Painting.{is_in_clips, is_painted, painted_on, paints, painted_in}
+use Rattle.paint_ops.specs.Painting.{is_painted, painted_on, paints, painted_in}
 use Rattle.paint_ops.specs.Papers.{paper_then, repaints, relaid, repainted_in}
 
 -- ---- lifting, painting and laying

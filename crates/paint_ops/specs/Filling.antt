@@ -1,6 +1,5 @@
 -- The inside of the current path is painted (section 4.5.2 of the language manual).
-use Rattle.std.specs.Prelude.{ℕ, List, [], drop}
-use Rattle.ps_shapes.specs.declared.path.Segment.{Segment}
+use Rattle.std.specs.Prelude.{[]}
 use Rattle.ps_shapes.specs.declared.polygon.Rule.{Rule}
 use Rattle.ps_shapes.specs.declared.polygon.Rule.TheVariants.{NonZero, EvenOdd}
 use Rattle.ps_kinds.specs.declared.state.State.{State}

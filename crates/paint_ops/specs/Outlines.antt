@@ -1,5 +1,5 @@
 -- The polygons of a path, as operators read them.
-use Rattle.std.specs.Prelude.{ℕ, nat_le, if◌then◌else◌, List, Result, Ok, Err}
+use Rattle.std.specs.Prelude.{nat_le, if◌then◌else◌, List, Result, Ok, Err}
 use Rattle.ps_names.specs.declared.error_name.ErrorName.{ErrorName}
 use Rattle.ps_names.specs.declared.error_name.ErrorName.TheVariants.{LimitCheck}
 use Rattle.ps_objects.specs.declared.refusal.Refusal.{Refusal}

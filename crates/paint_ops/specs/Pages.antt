@@ -1,5 +1,5 @@
 -- Pages are wiped and given out (section 8.2 of the language manual).
-use Rattle.std.specs.Prelude.{ℕ, ◌+◌, Bool, true, false, [], ◌∷◌}
+use Rattle.std.specs.Prelude.{◌+◌, Bool, true, false, [], ◌∷◌}
 use Rattle.ps_kinds.specs.declared.act.Act.TheVariants as act
 use Rattle.ps_kinds.specs.declared.state.State.{State}
 use Rattle.ps_memory.specs.Tree.{done, wipes}

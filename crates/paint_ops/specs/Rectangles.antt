@@ -4,7 +4,6 @@ use Rattle.ps_names.specs.declared.error_name.ErrorName.{ErrorName}
 use Rattle.ps_names.specs.declared.error_name.ErrorName.TheVariants.{RangeCheck, TypeCheck}
 use Rattle.ps_shapes.specs.declared.numbers.Matrix.{Matrix}
 use Rattle.ps_shapes.specs.declared.numbers.Real.{Real}
-use Rattle.ps_shapes.specs.declared.path.DevicePoint.{DevicePoint}
 use Rattle.ps_shapes.specs.declared.path.Segment.{Segment}
 use Rattle.ps_shapes.specs.declared.path.Segment.TheVariants.{Move, Line, Close}
 use Rattle.ps_shapes.specs.declared.polygon.Point.{Point}

@@ -59,8 +59,22 @@ fn rectangles_are_painted_inside_clips(rt: HostRuntime) -> Result<(), Fail> {
     let mut clips = Clips::new(alloc);
     let square = [0, 0, 0x3C, 0x3C, 0x3C, 0x3C, 0, 0];
     assert!(rt; leaves(alloc, [4, 4, 8, 8].as_slice(), &clips, square.as_slice())?);
-    assert!(rt; leaves(alloc, [0, 0, 5, 16].as_slice(), &clips, [0xC0; 8].as_slice())?);
-    assert!(rt; leaves(alloc, [5, 0, 5, 16].as_slice(), &clips, [0x38; 8].as_slice())?);
+    assert!(rt;
+        leaves(
+            alloc,
+            [0, 0, 5, 16].as_slice(),
+            &clips,
+            [0xC0; 8].as_slice()
+        )?
+    );
+    assert!(rt;
+        leaves(
+            alloc,
+            [5, 0, 5, 16].as_slice(),
+            &clips,
+            [0x38; 8].as_slice()
+        )?
+    );
     let low = [0, 0, 0, 0, 0, 0xFF, 0xFF, 0xFF];
     assert!(rt; leaves(alloc, [0, 0, 16, 5].as_slice(), &clips, low.as_slice())?);
     clips.push(Clip {
@@ -101,20 +115,33 @@ fn gives(answer: Result<Act, Refusal>, wiped: bool) -> bool {
     }
 }
 
+/// Whether a page that is kept leaves the line width, and one that is wiped begins it again.
+fn begins_after_wiping(state: &mut State) -> bool {
+    state.regs.state.width = LineWidth::new(Real { count: HALF });
+    let kept = gives(copypage(state), false);
+    let left = state.regs.state.width.real().count;
+    let wiped = gives(showpage(state), true);
+    let begun = state.regs.state.width.real().count;
+    kept && left == HALF && wiped && begun == 2 * HALF
+}
+
+/// Whether a page is refused for the budget.
+fn is_over(answer: Result<Act, Refusal>) -> bool {
+    matches!(answer, Err(Refusal::Error(ErrorName::LimitCheck)))
+}
+
 #[test]
 fn eight_pages_are_given_out(rt: HostRuntime) -> Result<(), Fail> {
     let mut state = running(rt.alloc())?;
-    state.regs.state.width = LineWidth::new(Real { count: HALF });
-    let kept = gives(copypage(&mut state), false);
-    assert!(rt; kept && state.regs.state.width.real().count == HALF);
-    let wiped = gives(showpage(&mut state), true);
-    assert!(rt; wiped && state.regs.state.width.real().count == 2 * HALF && state.shows == 2);
+    let begins = begins_after_wiping(&mut state);
+    assert!(rt; begins);
     for _ in 2..8 {
-        assert!(rt; gives(copypage(&mut state), false));
+        let given = gives(copypage(&mut state), false);
+        assert!(rt; given);
     }
-    let refused = copypage(&mut state);
-    assert!(rt; matches!(refused, Err(Refusal::Error(ErrorName::LimitCheck))));
-    assert!(rt; !is_measured(&state.frames));
+    let over = is_over(copypage(&mut state));
+    let measured = is_measured(&state.frames);
+    assert!(rt; over && !measured && state.shows == 8);
     let own = belongs(Op::at(places::RECTFILL), &state);
     let other = belongs(Op::at(places::IMAGE), &state);
     assert!(rt; own && !other);
