@@ -1,0 +1,5 @@
+pub mod Judging
+pub mod Clipping
+pub mod Papers
+pub mod Drawing
+pub mod Keeping

@@ -1,0 +1,9 @@
+pub mod Measuring
+pub mod Papers
+pub mod Painting
+pub mod Covering
+pub mod Outlines
+pub mod Filling
+pub mod Rectangles
+pub mod Pages
+pub mod Operators
