@@ -33,6 +33,7 @@ use Rattle.colour_ops.proofs.Keeping as colour_ops
 use Rattle.path_build.proofs.Keeping as path_build
 use Rattle.path_build.proofs.StepKeeping as path_steps
 use Rattle.clip_ops.proofs.Keeping as clip_ops
+use Rattle.paint_ops.proofs.Keeping as paint_ops
 use Rattle.error_ops.proofs.Keeping as error_ops
 use Rattle.operator_table.specs.Operators.{on_container, Family, families, is_of, run_among, Walker, walkers, step_among, table}
 
@@ -57,7 +58,7 @@ container_keeps n text s W f =
 
 -- the law of each crate, in the order of the families
 families_keep : AllByRecursion IsKept families
-families_keep = (λ n text. stack_arith.run_keeps n text, (λ n text. text_ops.run_keeps n text, (λ n text. container_keeps n text, (λ n text. array_ops.run_keeps n text, (λ n text. object_ops.run_keeps n text, (λ n text. control_ops.run_keeps n text, (λ n text. file_ops.run_keeps n text, (λ n text. save_restore.run_keeps n text, (λ n text. mat_ops.run_keeps n text, (λ n text. gstate.run_keeps n text, (λ n text. colour_ops.run_keeps n text, (λ n text. path_build.run_keeps n text, (λ n text. clip_ops.run_keeps n text, (λ n text. path_build.run_keeps n text, (λ n text. clip_ops.run_keeps n text, (λ n text. error_ops.run_keeps n text, tt))))))))))))))))
+families_keep = (λ n text. stack_arith.run_keeps n text, (λ n text. text_ops.run_keeps n text, (λ n text. container_keeps n text, (λ n text. array_ops.run_keeps n text, (λ n text. object_ops.run_keeps n text, (λ n text. control_ops.run_keeps n text, (λ n text. file_ops.run_keeps n text, (λ n text. save_restore.run_keeps n text, (λ n text. mat_ops.run_keeps n text, (λ n text. gstate.run_keeps n text, (λ n text. colour_ops.run_keeps n text, (λ n text. path_build.run_keeps n text, (λ n text. clip_ops.run_keeps n text, (λ n text. path_build.run_keeps n text, (λ n text. clip_ops.run_keeps n text, (λ n text. paint_ops.run_keeps n text, (λ n text. paint_ops.run_keeps n text, (λ n text. paint_ops.run_keeps n text, (λ n text. error_ops.run_keeps n text, tt)))))))))))))))))))
 
 -- ---- frames
 

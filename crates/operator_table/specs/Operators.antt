@@ -25,6 +25,7 @@ use Rattle.colour_ops.specs.Operators as colour_ops
 use Rattle.path_build.specs.Operators as path_build
 use Rattle.path_build.specs.Walks as walks
 use Rattle.clip_ops.specs.Operators as clip_ops
+use Rattle.paint_ops.specs.Operators as paint_ops
 use Rattle.error_ops.specs.Operators as error_ops
 
 -- ---- operators
@@ -59,6 +60,9 @@ families =
     ∷ record { first = at.FLATTENPATH; last = at.FLATTENPATH; run = λ n text s. clip_ops.run n s }
     ∷ record { first = at.PATHBBOX; last = at.PATHFORALL; run = λ n text s. path_build.run n s }
     ∷ record { first = at.INITCLIP; last = at.EOCLIP; run = λ n text s. clip_ops.run n s }
+    ∷ record { first = at.FILL; last = at.EOFILL; run = λ n text s. paint_ops.run n s }
+    ∷ record { first = at.RECTFILL; last = at.RECTFILL; run = λ n text s. paint_ops.run n s }
+    ∷ record { first = at.ERASEPAGE; last = at.COPYPAGE; run = λ n text s. paint_ops.run n s }
     ∷ record { first = at.FIRST_DEFAULT_ENTRY; last = at.OPERATOR_COUNT - 1; run = λ n text s. error_ops.run n s }
     ∷ []
 
