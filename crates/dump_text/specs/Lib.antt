@@ -1,0 +1,4 @@
+pub mod Papers
+pub mod Entries
+pub mod Contents
+pub mod Headers

@@ -1,0 +1,7 @@
+//! The dump: what the registers and the memory hold at the end of a job as text, where it differs from the start's.
+#![tactic(auto)]
+
+mod contents;
+mod entries;
+mod headers;
+mod papers;
