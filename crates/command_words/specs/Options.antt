@@ -52,6 +52,10 @@ taken measure word g = elim (value_of measure g) [
   | None ↦ elim (number_up_to (most_of measure) word) [ None ↦ None | Some n ↦ Some (with_value measure n g) ]
 ]
 
+-- the flag, where it wasn't there
+abbrev pub flagged : Given → Option Given
+flagged g = if g.dump then None else Some (record g { dump = true })
+
 -- a value in the same word, behind the option's name
 abbrev pub taken_behind : List ℕ → Given → Option Given
 taken_behind word g = elim (measure_given word) [ None ↦ None | Some measure ↦ taken measure (drop (value_start measure) word) g ]
@@ -59,7 +63,8 @@ taken_behind word g = elim (measure_given word) [ None ↦ None | Some measure �
 -- a word that is an option, or begins one
 abbrev pub opened : List ℕ → Given → Option Given
 opened word g =
-    elim (measure_named word) [
+    if bytes_eq word (codes "--dump") then flagged g
+    else elim (measure_named word) [
       | Some measure ↦ Some (record g { pending = Some measure })
       | None ↦ taken_behind word g
     ]

@@ -10,7 +10,7 @@ use Rattle.command_words.specs.declared.command.PlainOptions.{PlainOptions}
 
 -- no option yet
 abbrev pub nothing_given : Given
-nothing_given = record { dpi = None; width = None; height = None; pending = None }
+nothing_given = record { dpi = None; width = None; height = None; dump = false; pending = None }
 
 -- the value of an option, or what stands for one that isn't given
 abbrev pub or_default : ℕ → Option ℕ → ℕ
@@ -23,6 +23,7 @@ plain_options g = elim g.pending [
   | Some _ ↦ None
   | None ↦ Some (record {
     settings = record { dpi = or_default 72 g.dpi; width = or_default 612 g.width; height = or_default 792 g.height; keep = false };
+    dump = g.dump;
   })
 ]
 

@@ -12,10 +12,11 @@ use ps_objects::Settings;
 /// A word of the command line.
 pub type Word = Text;
 
-/// How `plain` runs a job.
+/// How `plain` runs a job: its settings, and whether memory is dumped at the end.
 #[derive(Clone, Copy, Debug, PartialEq, Eq)]
 pub struct PlainOptions {
     pub settings: Settings,
+    pub dump: bool,
 }
 
 /// What the words ask for.
@@ -27,7 +28,7 @@ pub enum Command {
     Split,
 }
 
-/// The command of the words, where they are in the grammar: `plain` with `--dpi`, `--width` and `--height` in any order, each at
+/// The command of the words, where they are in the grammar: `plain` with `--dpi`, `--width`, `--height` and `--dump` in any order, each at
 /// most once, a value as the next word or behind `=`; or `split` alone.
 pub fn command_of(words: &[Word]) -> Option<Command>
     ensures command { result ≡ spec.command_of words.now }
@@ -73,6 +74,7 @@ fn all_given(options: &[Word]) -> Option<Given>
         dpi: None,
         width: None,
         height: None,
+        dump: false,
         pending: None,
     };
     for word in options {
@@ -81,7 +83,7 @@ fn all_given(options: &[Word]) -> Option<Given>
     Some(given)
 }
 
-/// Settings, where no option waits for its value.
+/// Settings and flag, where no option waits for its value.
 fn plain_options(given: Given) -> Option<PlainOptions>
     requires { AreValues given }
     ensures options { result ≡ spec.plain_options given }
@@ -97,5 +99,6 @@ fn plain_options(given: Given) -> Option<PlainOptions>
             height: given.height.unwrap_or(792),
             keep: false,
         },
+        dump: given.dump,
     })
 }

@@ -16,12 +16,13 @@ pub(crate) enum Measure {
     Height,
 }
 
-/// What the words so far have given: values, and the option whose value is the next word.
+/// What the words so far have given: values, whether memory is dumped, and the option whose value is the next word.
 #[derive(Clone, Copy)]
 pub(crate) struct Given {
     pub(crate) dpi: Option<u32>,
     pub(crate) width: Option<u32>,
     pub(crate) height: Option<u32>,
+    pub(crate) dump: bool,
     pub(crate) pending: Option<Measure>,
 }
 
@@ -118,6 +119,22 @@ fn taken(measure: Measure, word: &[u8], given: Given) -> Option<Given>
     Some(with_value(measure, value, given))
 }
 
+/// Takes the flag, where it wasn't there.
+fn flagged(given: Given) -> Option<Given>
+    requires { AreValues given }
+    ensures given { result ≡ spec.flagged given }
+    ensures in_range { IfSome result AreValues }
+{
+    if given.dump {
+        None
+    } else {
+        Some(Given {
+            dump: true,
+            ..given
+        })
+    }
+}
+
 /// Takes a value in the same word, behind the option's name.
 #[tactic(auto, using(crate::proofs::Values::behind_name))]
 fn taken_behind(word: &[u8], given: Given) -> Option<Given>
@@ -136,6 +153,9 @@ fn opened(word: &[u8], given: Given) -> Option<Given>
     ensures given { result ≡ spec.opened word.now given }
     ensures in_range { IfSome result AreValues }
 {
+    if word == b"--dump".as_slice() {
+        return flagged(given);
+    }
     match measure_named(word) {
         Some(measure) => Some(Given {
             pending: Some(measure),

@@ -4,7 +4,7 @@ use copy_lists::NoMemory;
 use ps_objects::Settings;
 
 /// `plain` by these settings.
-fn plain(dpi: u32, width: u32, height: u32) -> Option<Command> {
+fn plain(dpi: u32, width: u32, height: u32, dump: bool) -> Option<Command> {
     Some(Command::Plain(PlainOptions {
         settings: Settings {
             dpi,
@@ -12,6 +12,7 @@ fn plain(dpi: u32, width: u32, height: u32) -> Option<Command> {
             height,
             keep: false,
         },
+        dump,
     }))
 }
 
@@ -19,9 +20,13 @@ fn plain(dpi: u32, width: u32, height: u32) -> Option<Command> {
 fn words_name_commands(rt: HostRuntime) -> Result<(), NoMemory> {
     let alloc = rt.alloc();
     for (line, command) in [
-        ("plain", plain(72, 612, 792)),
-        ("plain --dpi 2400 --width=1", plain(2400, 1, 792)),
-        ("plain --height 000008192 --dpi=1", plain(1, 612, 8192)),
+        ("plain", plain(72, 612, 792, false)),
+        ("plain --dump", plain(72, 612, 792, true)),
+        ("plain --dpi 2400 --width=1", plain(2400, 1, 792, false)),
+        (
+            "plain --height 000008192 --dump --dpi=1",
+            plain(1, 612, 8192, true),
+        ),
         ("split", Some(Command::Split)),
         ("plain --dpi", None),
         ("plain --dpi 0", None),
@@ -30,11 +35,12 @@ fn words_name_commands(rt: HostRuntime) -> Result<(), NoMemory> {
         ("plain --height=0000008192", None),
         ("plain --height=", None),
         ("plain --height=+1", None),
-        ("plain --dump", None),
+        ("plain --dump --dump", None),
+        ("plain --dump=1", None),
         ("plain --dpi 72 --dpi 72", None),
         ("plain --", None),
         ("plain plain", None),
-        ("split --dpi=72", None),
+        ("split --dump", None),
         ("render", None),
     ] {
         let mut words = Vec::new(alloc);

@@ -33,7 +33,7 @@ fn push_items<B: Base>(text: &mut Text, mem: &B, array: Cell, len: u32) -> Resul
 
 /// Appends the line of all items of an array.
 #[tactic(auto, using(dump_lines::proofs::Pieces::three_pieces), unfolding(crate::specs::Contents::items_line))]
-pub fn push_items_line<B: Base>(
+pub(crate) fn push_items_line<B: Base>(
     text: &mut Text,
     mem: &B,
     array: Cell,
@@ -89,7 +89,7 @@ fn push_bytes<B: Base>(text: &mut Text, mem: &B, string: Cell, len: u32) -> Resu
 
 /// Appends the line of all bytes of a string.
 #[tactic(auto, using(dump_lines::proofs::Pieces::three_pieces), unfolding(crate::specs::Contents::bytes_line))]
-pub fn push_bytes_line<B: Base>(
+pub(crate) fn push_bytes_line<B: Base>(
     text: &mut Text,
     mem: &B,
     string: Cell,

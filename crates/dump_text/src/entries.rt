@@ -39,7 +39,7 @@ fn push_pair_line(text: &mut Text, key: &Key, value: &Value) -> Result<(), NoMem
 
 /// Appends a key and its value, where that isn't the start's.
 #[tactic(auto, unfolding(crate::specs::Entries::entry_line))]
-pub fn push_entry_line(
+pub(crate) fn push_entry_line(
     text: &mut Text,
     key: &Key,
     now: &Value,
@@ -78,7 +78,7 @@ fn access_told(value: &Value) -> &'static [u8]
 
 /// Appends the access, where it isn't the start's, or that of a new dictionary.
 #[tactic(auto, using(dump_lines::proofs::Pieces::three_pieces), unfolding(crate::specs::Entries::access_line))]
-pub fn push_access_line(text: &mut Text, now: &Value, before: &Value) -> Result<(), NoMemory>
+pub(crate) fn push_access_line(text: &mut Text, now: &Value, before: &Value) -> Result<(), NoMemory>
     ensures { OnOk result (text.new ≡ text.old ++ spec.access_line now.now before.now) }
 {
     let letter = access_told(now);

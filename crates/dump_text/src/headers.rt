@@ -38,7 +38,7 @@ fn push_cell_line(text: &mut Text, cell: Cell, kind: &[u8], size: u32) -> Result
 }
 
 /// Whether a cell was made: those of section 0 are the start's.
-pub fn is_made(cell: Cell) -> bool
+pub(crate) fn is_made(cell: Cell) -> bool
     ensures { result ≡ spec.is_made cell }
 {
     cell.section != 0
@@ -46,7 +46,7 @@ pub fn is_made(cell: Cell) -> bool
 
 /// Appends what is told of a cell that was made, or of which something is told.
 #[tactic(auto, using(dump_lines::proofs::Pieces::two_pieces), unfolding(crate::specs::Headers::block))]
-pub fn push_block(
+pub(crate) fn push_block(
     text: &mut Text,
     cell: Cell,
     kind: &[u8],

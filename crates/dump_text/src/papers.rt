@@ -22,7 +22,7 @@ fn push_state_line(text: &mut Text, state: u32) -> Result<(), NoMemory>
 
 /// Appends what is told of the state of the random numbers.
 #[tactic(auto, unfolding(crate::specs::Papers::rand_line))]
-pub fn push_rand_line(text: &mut Text, value: &Value) -> Result<(), NoMemory>
+pub(crate) fn push_rand_line(text: &mut Text, value: &Value) -> Result<(), NoMemory>
     ensures { OnOk result (text.new ≡ text.old ++ spec.rand_line value.now) }
 {
     match value {
@@ -109,7 +109,7 @@ fn push_sheet_line(text: &mut Text, paper: &Paper) -> Result<(), NoMemory>
 
 /// Appends what is told of the paper.
 #[tactic(auto, unfolding(crate::specs::Papers::paper_line))]
-pub fn push_paper_line(text: &mut Text, value: &Value) -> Result<(), NoMemory>
+pub(crate) fn push_paper_line(text: &mut Text, value: &Value) -> Result<(), NoMemory>
     ensures { OnOk result (text.new ≡ text.old ++ spec.paper_line value.now) }
 {
     match value {

@@ -9,6 +9,7 @@ use Rattle.rip_ports.specs.Ports.{Appends, AppendsFront, Gives}
 use Rattle.dsc_split.specs.Sections.{page_count, sections_of}
 use Rattle.out_writers.specs.Texts.{pictures}
 use Rattle.out_writers.specs.Writing.{appended, front_appended, whole_appended, longer_appended}
+use Rattle.ps_kinds.specs.declared.regs.Regs.{Regs}
 use Rattle.ps_memory.specs.Memory.{Memory}
 use Rattle.section_sequence.specs.Sequence.{Progress}
 use Rattle.job_run.specs.Sequence.{progress_of}
@@ -20,10 +21,10 @@ use Rattle.command_words.specs.declared.command.Command.{Command}
 use Rattle.command_words.specs.declared.command.Command.TheVariants.{Plain, Split}
 use Rattle.command_words.specs.declared.command.PlainOptions.{PlainOptions}
 use Rattle.rip_run.specs.Answers.{Answers}
-use Rattle.rip_run.specs.Job.{JobResult, is_refused, is_too_large, is_too_many, result_of_command, result_of_progress, result_of_read, result_of_sections, status_of, told}
+use Rattle.rip_run.specs.Job.{JobResult, is_refused, is_too_large, is_too_many, closing, result_of_command, result_of_progress, result_of_read, result_of_sections, status_of, told}
 use Rattle.rip_run.specs.Reading.{IsAtEnd}
 use Rattle.rip_run.specs.Status.{IsDefined, IsRun, Writes}
-use Rattle.rip_run.specs.Texts.{done_line, section_line, too_large_line, too_many_line}
+use Rattle.rip_run.specs.Texts.{section_line, too_large_line, too_many_line}
 use Rattle.rip_run.specs.declared.status.Status.{Status}
 use Rattle.rip_run.specs.declared.status.Status.TheVariants as status
 
@@ -134,23 +135,25 @@ module _ (T : Table) (options : PlainOptions) (moment : ℕ) (job : List ℕ) (p
   abbrev Plainly : Status → Type 0
   Plainly answer = Answers (result_of_read T (Plain options) moment job) answer p q b d
 
-  -- the sections ran to their end, and then the closing line was written
+  -- the sections ran to their end, and then the closing lines were written
   pub closed_answers : {M : Type 0} (view : M → Memory) (left : Final M) (c : Option (List ℕ)) (answer : Status)
       → (page_count (sections_of job) ≤ 100000) × Leaves view P left × Appends (pictures P.papers) p q × Appends P.text b c
-      → answer ≢ status.ReadFault → Writes answer (done_line left.shown) c d → (IsDefined answer → answer ≡ status_of P.end) → Plainly answer
+      → answer ≢ status.ReadFault → Writes answer (closing options left.regs (view left.mem) left.shown) c d → (IsDefined answer → answer ≡ status_of P.end) → Plainly answer
   closed_answers view left c answer h n w s =
+      let same : closing options left.regs (view left.mem) left.shown ≡ closing options P.regs P.memory (length P.papers) =
+          ap (λ R. closing options R (view left.mem) left.shown) h.1.regs ∙ ap (λ M. closing options P.regs M left.shown) h.1.memory ∙ ap (closing options P.regs P.memory) h.1.shown in
       subst (λ r. Answers r answer p q b d) (sym (of_sections T (Plain options) moment job h.0))
       (record {
         status = s;
         pages = whole_written answer (pictures P.papers) p q n h.2;
-        back = written_then answer P.text (done_line (length P.papers)) b c d n h.3 (subst (λ k. Writes answer (done_line k) c d) h.1.shown w);
+        back = written_then answer P.text (closing options P.regs P.memory (length P.papers)) b c d n h.3 (subst (λ t. Writes answer t c d) same w);
       })
 
   -- a sink failed while the sections ran
   faulted : (page_count (sections_of job) ≤ 100000) × AppendsFront (pictures P.papers) p q × AppendsFront P.text b d → Plainly status.WriteFault
   faulted h =
       subst (λ r. Answers r status.WriteFault p q b d) (sym (of_sections T (Plain options) moment job h.0))
-      (record { status = λ x. absurd x; pages = h.1; back = longer_appended P.text (done_line (length P.papers)) b d h.2 })
+      (record { status = λ x. absurd x; pages = h.1; back = longer_appended P.text (closing options P.regs P.memory (length P.papers)) b d h.2 })
 
   -- memory ran out
   starved : ((q ≡ p) × (d ≡ b)) ⊎ ((page_count (sections_of job) ≤ 100000) × AppendsFront (pictures P.papers) p q × AppendsFront P.text b d) → Plainly status.NoMemory
@@ -159,7 +162,7 @@ module _ (T : Table) (options : PlainOptions) (moment : ℕ) (job : List ℕ) (p
       (subst (λ x. Answers (result_of_read T (Plain options) moment job) status.NoMemory p p b x) (sym h.1) (wanting_answers (result_of_read T (Plain options) moment job) p b))
   starved (inr h) =
       subst (λ r. Answers r status.NoMemory p q b d) (sym (of_sections T (Plain options) moment job h.0))
-      (record { status = λ x. absurd x; pages = h.1; back = longer_appended P.text (done_line (length P.papers)) b d h.2 })
+      (record { status = λ x. absurd x; pages = h.1; back = longer_appended P.text (closing options P.regs P.memory (length P.papers)) b d h.2 })
 
   pub faulty_answers : {M : Type 0} (view : M → Memory) (e : JobFault) → e ≡ fault.WriteFault → RunsJob view P job (Err e) p q b d → Plainly status.WriteFault
   faulty_answers view e is h = faulted (subst (λ x. RunsJob view P job (Err x) p q b d) is h)

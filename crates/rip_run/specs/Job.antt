@@ -1,5 +1,7 @@
 -- The result of a job: what is written for it, and how the call ends.
 use Rattle.std.specs.Prelude.{ℕ, Bool, ◌||◌, List, [], ◌++◌, flat_map, length, nat_lt, Option, Some, None, if◌then◌else◌}
+use Rattle.ps_kinds.specs.declared.regs.Regs.{Regs}
+use Rattle.ps_memory.specs.Memory.{Memory}
 use Rattle.ps_execution.specs.Section.{End, Through, Stopped, Quitted, OutOfTurns}
 use Rattle.ps_execution.specs.Table.{Table}
 use Rattle.dsc_split.specs.Sections.{page_count, sections_of}
@@ -9,6 +11,8 @@ use Rattle.job_run.specs.Sequence.{progress_of}
 use Rattle.command_words.specs.Words.{command_of}
 use Rattle.command_words.specs.declared.command.Command.{Command}
 use Rattle.command_words.specs.declared.command.Command.TheVariants.{Plain, Split}
+use Rattle.command_words.specs.declared.command.PlainOptions.{PlainOptions}
+use Rattle.dump_text.specs.Dump.{dump_of}
 use Rattle.operator_table.specs.Operators.{table}
 use Rattle.rip_run.specs.Texts.{done_line, section_line, too_large_line, too_many_line, usage_line}
 use Rattle.rip_run.specs.declared.status.Status.{Status}
@@ -31,17 +35,21 @@ status_of Stopped = status.JobError 0
 status_of Quitted = status.Done 0
 status_of OutOfTurns = status.JobError 0
 
--- what sections have come to: their pictures, their text with the closing line, and how the last that ran has ended
-abbrev pub result_of_progress : Progress → JobResult
-result_of_progress p = record {
+-- what is said after the sections: the dump of what they left, where it is asked, and how many pages were shown
+abbrev pub closing : PlainOptions → Regs → Memory → ℕ → List ℕ
+closing options R M shown = (if options.dump then dump_of options.settings R M else []) ++ done_line shown
+
+-- what sections have come to: their pictures, their text with the closing lines, and how the last that ran has ended
+abbrev pub result_of_progress : PlainOptions → Progress → JobResult
+result_of_progress options p = record {
   pages = pictures p.papers;
-  back = p.text ++ done_line (length p.papers);
+  back = p.text ++ closing options p.regs p.memory (length p.papers);
   status = status_of p.end;
 }
 
 -- what a command makes of the sections of a job
 abbrev pub result_of_sections : Table → Command → ℕ → List ℕ → JobResult
-result_of_sections T (Plain options) moment job = result_of_progress (progress_of T options.settings moment job)
+result_of_sections T (Plain options) moment job = result_of_progress options (progress_of T options.settings moment job)
 result_of_sections T Split moment job = told (flat_map section_line (sections_of job)) (status.Done 0)
 
 -- more than 100,000 pages are too many
