@@ -5,6 +5,8 @@ mod fields;
 mod hex;
 mod objects;
 mod registers;
+#[cfg(test)]
+mod tests;
 mod values;
 
 pub use hex::{push_hex, push_hex_byte};

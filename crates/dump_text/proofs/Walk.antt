@@ -66,11 +66,23 @@ before_trans c d e h k = ap is_lt (names_total.trans c d e (less (name_cmp c d) 
 
 not_back : (c d : Cell) → comes_before c d ≡ true → comes_before d c ≡ false
 unfolding name_cmp
-not_back c d h = ap is_lt (names_total.antisymm c d) ∙ ap (λ r. is_lt (ordering_reverse r)) (less (name_cmp c d) h)
+not_back c d h = ap is_lt (names_total.antisymm d c) ∙ ap (λ r. is_lt (ordering_reverse r)) (less (name_cmp c d) h)
 
 not_itself : (c : Cell) → comes_before c c ≡ false
 unfolding name_cmp
 not_itself c = ap is_lt (tied_itself names_total c)
+
+not_greater : (a r : Ordering) → ordering_then a r ≡ Less → a ≡ Greater → false ≡ true
+not_greater Greater r l e = ap is_lt l
+not_greater Equal r l e = cc
+not_greater Less r l e = cc
+
+not_above : (a b t : Ordering) → ordering_then a (ordering_then b t) ≡ Less → a ≡ Equal → b ≡ Greater → false ≡ true
+not_above Equal Greater t l s e = ap is_lt l
+not_above Equal Equal t l s e = cc
+not_above Equal Less t l s e = cc
+not_above Less b t l s e = cc
+not_above Greater b t l s e = cc
 
 module _ (M : Memory) where
   stood : (c : Cell) → stands M c ≡ true → shape_at M c ≢ None
@@ -141,12 +153,12 @@ module _ (M : Memory) where
         counts Equal s e =
             let same : c ≡ d = unique c d (stood c h) (stood d k) (nat_cmp-IsAntisymmetric c.section d.section s) (nat_cmp-IsAntisymmetric c.count d.count e) in
             absurd (true≢false (sym (ap is_lt (ap (cell_cmp c) same ∙ l)) ∙ ap is_lt (tied_itself cells_total c)))
-        counts Greater s e = absurd (true≢false (sym (ap is_lt l) ∙ ap (λ r. is_lt (ordering_then r (cell_cmp (record { section = 0; count = c.count; space = c.space }) (record { section = 0; count = d.count; space = d.space })))) s ∙ ap (λ r. is_lt (ordering_then r Less)) e))
+        counts Greater s e = not_above (nat_cmp c.section d.section) (nat_cmp c.count d.count) _ l s e
 
         sections : (r : Ordering) → nat_cmp c.section d.section ≡ r → comes_before c d ≡ true
         sections Less e = ap (λ r. is_lt (ordering_then r (nat_cmp c.count d.count))) e
         sections Equal e = ap (λ r. is_lt (ordering_then r (nat_cmp c.count d.count))) e ∙ counts (nat_cmp c.count d.count) e refl
-        sections Greater e = absurd (true≢false (sym (ap is_lt l) ∙ ap (λ r. is_lt (ordering_then r Less)) e))
+        sections Greater e = absurd (true≢false (sym (not_greater (nat_cmp c.section d.section) _ l e)))
 
     -- all that stands above a cell passes a test that what comes after the cell passes
     all_pass : {X : Type 0} (p : Cell → Bool) (c : Cell) → stands M c ≡ true → ((e : Cell) → comes_before c e ≡ true → p e ≡ true) → (es : List (Cell × X)) → T (below_all cell_cmp c es) →
@@ -178,15 +190,8 @@ module _ (M : Memory) where
         below : below_all cell_cmp e.0 es ≡ true
         below = and_first (below_all cell_cmp e.0 es) (is_sorted cell_cmp es) s
 
-        names : List Cell
-        names = map (λ e. e.0) es
-
-        Goal : Type 0
-        Goal = filter (is_after last) (standing_in (e ∷ es)) ≡ c ∷ filter (comes_before c) (standing_in (e ∷ es))
-
         -- it is the first
-        this_one : stands M e.0 ≡ true → c ≡ e.0 → Goal
-        unfolding Goal
+        this_one : stands M e.0 ≡ true → c ≡ e.0 → filter (is_after last) (standing_in (e ∷ es)) ≡ c ∷ filter (comes_before c) (standing_in (e ∷ es))
         this_one k same =
             let here = filter_yes (stands M) e.0 (map (λ e. e.0) es) k in
             let under : T (below_all cell_cmp c es) = holds _ (ap (λ x. below_all cell_cmp x es) same ∙ below) in
@@ -197,8 +202,7 @@ module _ (M : Memory) where
             ∙ ap (λ xs. c ∷ xs) (sym (ap (filter (comes_before c)) here ∙ filter_no (comes_before c) e.0 (standing_in es) (ap (comes_before c) (sym same) ∙ not_itself c)))
 
         -- it comes later, and the first doesn't come after the last one
-        a_later : stands M e.0 ≡ true → comes_before e.0 c ≡ true → filter (is_after last) (standing_in es) ≡ c ∷ filter (comes_before c) (standing_in es) → Goal
-        unfolding Goal
+        a_later : stands M e.0 ≡ true → comes_before e.0 c ≡ true → filter (is_after last) (standing_in es) ≡ c ∷ filter (comes_before c) (standing_in es) → filter (is_after last) (standing_in (e ∷ es)) ≡ c ∷ filter (comes_before c) (standing_in (e ∷ es))
         a_later k l r =
             let here = filter_yes (stands M) e.0 (map (λ e. e.0) es) k in
             ap (filter (is_after last)) here ∙ filter_no (is_after last) e.0 (standing_in es) (not_after (is_after last e.0) refl) ∙ r
@@ -209,8 +213,7 @@ module _ (M : Memory) where
             not_after true q = absurd (true≢false (sym l ∙ n e.0 (stood e.0 k) q))
 
         -- the first doesn't stand
-        fallen : stands M e.0 ≡ false → filter (is_after last) (standing_in es) ≡ c ∷ filter (comes_before c) (standing_in es) → Goal
-        unfolding Goal
+        fallen : stands M e.0 ≡ false → filter (is_after last) (standing_in es) ≡ c ∷ filter (comes_before c) (standing_in es) → filter (is_after last) (standing_in (e ∷ es)) ≡ c ∷ filter (comes_before c) (standing_in (e ∷ es))
         fallen k r =
             let here = filter_no (stands M) e.0 (map (λ e. e.0) es) k in
             ap (filter (is_after last)) here ∙ r ∙ ap (λ xs. c ∷ xs) (sym (ap (filter (comes_before c)) here))
@@ -227,7 +230,7 @@ module _ (M : Memory) where
             pick false t f = f (or_right (eq_by_cmp cell_cmp c x.0) _ t j)
 
         go : (s t : Bool) → stands M e.0 ≡ s → eq_by_cmp cell_cmp c e.0 ≡ t
-            → (list_any (eq_by_cmp cell_cmp c) (map (λ e. e.0) es) ≡ true → filter (is_after last) (standing_in es) ≡ c ∷ filter (comes_before c) (standing_in es)) → Goal
+            → (list_any (eq_by_cmp cell_cmp c) (map (λ e. e.0) es) ≡ true → filter (is_after last) (standing_in es) ≡ c ∷ filter (comes_before c) (standing_in es)) → filter (is_after last) (standing_in (e ∷ es)) ≡ c ∷ filter (comes_before c) (standing_in (e ∷ es))
         go true true k t r = this_one k (cell_is c e.0 t)
         go true false k t r = a_later k (comes_lower e.0 c k h (under_here es (holds _ below) (in_rest t))) (r (in_rest t))
         go false true k t r = absurd (true≢false (sym h ∙ ap (stands M) (cell_is c e.0 t) ∙ k))
@@ -244,18 +247,18 @@ module _ (M : Memory) where
 
 module _ (S M : Memory) where
   -- one more cell was told
-  pub one_cell : IsUnique (shape_at M) → (last : Option Cell) (c : Cell) (sh : Shape) (text after whole : List ℕ) → IsNext M last (Some (c, sh)) → after ≡ text ++ shape_lines S M c sh
-      → text ++ flat_map (cell_lines S M) (cells_after M last) ≡ whole → after ++ flat_map (cell_lines S M) (cells_after M (Some c)) ≡ whole
+  pub one_cell : IsUnique (shape_at M) → (last : Option Cell) (c : Cell) (sh : Shape) (text after full : List ℕ) → IsNext M last (Some (c, sh)) → after ≡ text ++ shape_lines S M c sh
+      → text ++ flat_map (cell_lines S M) (cells_after M last) ≡ full → after ++ flat_map (cell_lines S M) (cells_after M (Some c)) ≡ full
   unfolding cell_lines
-  one_cell unique last c sh text after whole n a w =
+  one_cell unique last c sh text after full n a w =
       let told : shape_lines S M c sh ≡ cell_lines S M c = sym (ap (lines_of S M c) n.0) in
       let rest = flat_map (cell_lines S M) (cells_after M (Some c)) in
       ap (λ s. s ++ rest) (a ∙ ap (λ s. text ++ s) told) ∙ append_assoc text (cell_lines S M c) rest
       ∙ ap (λ cs. text ++ flat_map (cell_lines S M) cs) (sym (next_cell M unique last c sh n)) ∙ w
 
   -- all were told
-  pub all_cells : (last : Option Cell) (text whole : List ℕ) → IsNext M last None → text ++ flat_map (cell_lines S M) (cells_after M last) ≡ whole → text ≡ whole
-  all_cells last text whole n w = sym (append-nil text) ∙ ap (λ cs. text ++ flat_map (cell_lines S M) cs) (sym (no_more M last n)) ∙ w
+  pub all_cells : (last : Option Cell) (text full : List ℕ) → IsNext M last None → text ++ flat_map (cell_lines S M) (cells_after M last) ≡ full → text ≡ full
+  all_cells last text full n w = sym (append-nil text) ∙ ap (λ cs. text ++ flat_map (cell_lines S M) cs) (sym (no_more M last n)) ∙ w
 
 pub fewer : (M : Memory) → IsUnique (shape_at M) → (last : Option Cell) (c : Cell) (sh : Shape) → IsNext M last (Some (c, sh)) → length (cells_after M (Some c)) < length (cells_after M last)
 fewer M unique last c sh n = omega (arith, ap length (next_cell M unique last c sh n))

@@ -8,5 +8,7 @@ mod headers;
 mod keys;
 mod memory;
 mod papers;
+#[cfg(test)]
+mod tests;
 
 pub use memory::dump;

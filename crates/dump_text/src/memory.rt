@@ -4,6 +4,8 @@ ghost use Rattle.ps_memory.specs.Memory.{shape_at};
 ghost use Rattle.ps_meaning.specs.Registers.{SoundState};
 ghost use Rattle.ps_meaning.specs.Sound.{IsUnique};
 ghost use Rattle.ps_start.specs.Settings.{AreInRange};
+ghost use Rattle.ps_meaning.specs.Start.{start_memory, start_state};
+ghost use Rattle.dump_lines.specs.Registers.{register_lines};
 ghost use Rattle.dump_text.specs.Dump as spec;
 
 use crate::cells::push_cells;
@@ -14,6 +16,21 @@ use ps_kinds::{Loc, Regs, Settings};
 use ps_start::start_registers;
 use std::alloc::Global;
 use vm_mem::Base;
+
+/// Appends the lines of registers beside those with which a job of these settings starts.
+fn push_registers_beside(
+    alloc: Global,
+    text: &mut Text,
+    settings: &Settings,
+    regs: &Regs,
+) -> Result<(), NoMemory>
+    requires { AreInRange settings.now }
+    ensures { OnOk result (text.new ≡
+        text.old ++ register_lines (start_state settings.now) regs.now) }
+{
+    let start = start_registers(alloc, settings)?;
+    push_registers(alloc, text, regs, &start.state)
+}
 
 /// Appends the lines of a memory beside the start's: the state of the random numbers, the paper, and the cells in order.
 #[tactic(auto, using(dump_lines::proofs::Pieces::three_pieces), unfolding(crate::specs::Dump::memory_lines))]
@@ -34,8 +51,24 @@ fn push_memory<B: Base>(
     push_cells(alloc, text, start, mem)
 }
 
+/// Appends the lines of a memory beside that with which a job of these settings starts.
+fn push_memory_beside<B: Base + Drop>(
+    alloc: Global,
+    text: &mut Text,
+    settings: &Settings,
+    mem: &B,
+) -> Result<(), NoMemory>
+    requires { IsUnique (shape_at (B.log mem.now).view) }
+    ensures { OnOk result (text.new ≡ text.old ++
+        spec.memory_lines (start_memory settings.now) (B.log mem.now).view) }
+{
+    let start = B::start(alloc, settings)?;
+    push_memory(alloc, text, &start, mem)
+}
+
 /// What registers and a memory hold, as text: the registers, and of the memory what differs from that with which a job of these
 /// settings starts. Err where memory ran out; the memory is as it was.
+#[tactic(auto, using(dump_lines::proofs::Pieces::two_pieces), unfolding(crate::specs::Dump::dump_of))]
 pub fn dump<B: Base + Drop>(
     alloc: Global,
     settings: &Settings,
@@ -47,10 +80,8 @@ pub fn dump<B: Base + Drop>(
     ensures { IfOk result (λ text.
         text ≡ spec.dump_of settings.now regs.now (B.log mem.now).view) }
 {
-    let registers = start_registers(alloc, settings)?;
-    let start = B::start(alloc, settings)?;
     let mut text = Text::from_bytes(alloc, b"%%[ dump ]%%\n")?;
-    push_registers(alloc, &mut text, regs, &registers.state)?;
-    push_memory(alloc, &mut text, &start, mem)?;
+    push_registers_beside(alloc, &mut text, settings, regs)?;
+    push_memory_beside(alloc, &mut text, settings, mem)?;
     Ok(text)
 }
