@@ -1,9 +1,7 @@
 //! Objects as text, as the format's description has them.
 use crate::push_object;
 use copy_lists::{NoMemory, Text};
-use ps_kinds::{
-    Access, Cell, Interval, Kind, Name, Object, Op, Real, SaveName, Space, places,
-};
+use ps_kinds::{Access, Cell, Interval, Kind, Name, Object, Op, Real, SaveName, Space, places};
 use std::alloc::Global;
 
 fn cell() -> Cell {

@@ -49,7 +49,7 @@ module _ (xs ys : List Key) (i j : ℕ) (x y : Key) (keys after whole : List Key
   unfolding by_order
   from_second h k p q e w a =
       let left = at_both xs ys i j x y h k p q ∙ ap (λ r. by_order r x y (drop (i + 1) xs) (drop (j + 1) ys)) e
-          ∙ ap (λ zs. y ∷ merged zs (drop (j + 1) ys)) (here_first xs i x h p) in
+      ∙ ap (λ zs. y ∷ merged zs (drop (j + 1) ys)) (here_first xs i x h p) in
       moved y keys after (merged (drop i xs) (drop (j + 1) ys)) (merged (drop i xs) (drop j ys)) whole a left w
 
   pub from_both : i < length xs → j < length ys → x ≡ slice_index_or xs i x → y ≡ slice_index_or ys j y → key_order y x ≡ Equal →
@@ -64,7 +64,7 @@ module _ (xs ys : List Key) (i j : ℕ) (x y : Key) (keys after whole : List Key
   unfolding by_order
   from_first h k p q e w a =
       let left = at_both xs ys i j x y h k p q ∙ ap (λ r. by_order r x y (drop (i + 1) xs) (drop (j + 1) ys)) e
-          ∙ ap (λ zs. x ∷ merged (drop (i + 1) xs) zs) (here_first ys j y k q) in
+      ∙ ap (λ zs. x ∷ merged (drop (i + 1) xs) zs) (here_first ys j y k q) in
       moved x keys after (merged (drop (i + 1) xs) (drop j ys)) (merged (drop i xs) (drop j ys)) whole a left w
 
 -- one list is over, and the rest of both was appended

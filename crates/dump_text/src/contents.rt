@@ -4,8 +4,8 @@ ghost use Rattle.dump_text.specs.Contents as spec;
 ghost use Rattle.dump_text.specs.Contents.{counted};
 
 use crate::entries::push_value;
-use dump_lines::push_hex_byte;
 use copy_lists::{NoMemory, Text};
+use dump_lines::push_hex_byte;
 use ps_kinds::{Cell, Loc, Value};
 use vm_mem::Base;
 

@@ -2,8 +2,8 @@
 ghost use Rattle.std.specs.Prelude.{◌≡◌, ◌++◌, OnOk};
 ghost use Rattle.dump_text.specs.Entries as spec;
 
-use dump_lines::push_object;
 use copy_lists::{NoMemory, Text};
+use dump_lines::push_object;
 use ps_kinds::{Access, Key, Value};
 
 /// Appends a value at an entry or an item.

@@ -2,8 +2,8 @@
 ghost use Rattle.std.specs.Prelude.{◌≡◌, ◌++◌, OnOk};
 ghost use Rattle.dump_text.specs.Headers as spec;
 
-use dump_lines::{push_decimal, push_place};
 use copy_lists::{NoMemory, Text};
+use dump_lines::{push_decimal, push_place};
 use ps_kinds::{Cell, Space};
 
 /// Where a cell lies.

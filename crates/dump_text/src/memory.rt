@@ -34,12 +34,7 @@ fn push_registers_beside(
 
 /// Appends the lines of a memory beside the start's: the state of the random numbers, the paper, and the cells in order.
 #[tactic(auto, using(dump_lines::proofs::Pieces::three_pieces), unfolding(crate::specs::Dump::memory_lines))]
-fn push_memory<B: Base>(
-    alloc: Global,
-    text: &mut Text,
-    start: &B,
-    mem: &B,
-) -> Result<(), NoMemory>
+fn push_memory<B: Base>(alloc: Global, text: &mut Text, start: &B, mem: &B) -> Result<(), NoMemory>
     requires { IsUnique (shape_at (B.log mem.now).view) }
     ensures { OnOk result (text.new ≡ text.old ++
         spec.memory_lines (B.log start.now).view (B.log mem.now).view) }

@@ -5,9 +5,8 @@ ghost use Rattle.ps_shapes.specs.Bits.{stride_of};
 ghost use Rattle.ps_objects.specs.declared.place.Value.TheVariants as value;
 ghost use Rattle.dump_text.specs.Papers as spec;
 
-use dump_lines::push_hex;
-use dump_lines::push_decimal;
 use copy_lists::{NoMemory, Text};
+use dump_lines::{push_decimal, push_hex};
 use ps_kinds::{Paper, Value};
 
 /// Appends the line of the state of the random numbers.

@@ -141,7 +141,7 @@ module _ (T : Table) (options : PlainOptions) (moment : ℕ) (job : List ℕ) (p
       → answer ≢ status.ReadFault → Writes answer (closing options left.regs (view left.mem) left.shown) c d → (IsDefined answer → answer ≡ status_of P.end) → Plainly answer
   closed_answers view left c answer h n w s =
       let same : closing options left.regs (view left.mem) left.shown ≡ closing options P.regs P.memory (length P.papers) =
-          ap (λ R. closing options R (view left.mem) left.shown) h.1.regs ∙ ap (λ M. closing options P.regs M left.shown) h.1.memory ∙ ap (closing options P.regs P.memory) h.1.shown in
+      ap (λ R. closing options R (view left.mem) left.shown) h.1.regs ∙ ap (λ M. closing options P.regs M left.shown) h.1.memory ∙ ap (closing options P.regs P.memory) h.1.shown in
       subst (λ r. Answers r answer p q b d) (sym (of_sections T (Plain options) moment job h.0))
       (record {
         status = s;
