@@ -1,0 +1,5 @@
+pub mod Hex
+pub mod Objects
+pub mod Values
+pub mod Fields
+pub mod Registers
