@@ -58,7 +58,7 @@ container_keeps n text s W f =
 
 -- the law of each crate, in the order of the families
 families_keep : AllByRecursion IsKept families
-families_keep = (λ n text. stack_arith.run_keeps n text, (λ n text. text_ops.run_keeps n text, (λ n text. container_keeps n text, (λ n text. array_ops.run_keeps n text, (λ n text. object_ops.run_keeps n text, (λ n text. control_ops.run_keeps n text, (λ n text. file_ops.run_keeps n text, (λ n text. save_restore.run_keeps n text, (λ n text. mat_ops.run_keeps n text, (λ n text. gstate.run_keeps n text, (λ n text. colour_ops.run_keeps n text, (λ n text. path_build.run_keeps n text, (λ n text. clip_ops.run_keeps n text, (λ n text. path_build.run_keeps n text, (λ n text. clip_ops.run_keeps n text, (λ n text. paint_ops.run_keeps n text, (λ n text. paint_ops.run_keeps n text, (λ n text. paint_ops.run_keeps n text, (λ n text. error_ops.run_keeps n text, tt)))))))))))))))))))
+families_keep = (λ n text. stack_arith.run_keeps n text, (λ n text. text_ops.run_keeps n text, (λ n text. container_keeps n text, (λ n text. array_ops.run_keeps n text, (λ n text. object_ops.run_keeps n text, (λ n text. control_ops.run_keeps n text, (λ n text. file_ops.run_keeps n text, (λ n text. save_restore.run_keeps n text, (λ n text. mat_ops.run_keeps n text, (λ n text. gstate.run_keeps n text, (λ n text. colour_ops.run_keeps n text, (λ n text. path_build.run_keeps n text, (λ n text. clip_ops.run_keeps n text, (λ n text. path_build.run_keeps n text, (λ n text. clip_ops.run_keeps n text, (λ n text. paint_ops.run_keeps n text, (λ n text. error_ops.run_keeps n text, tt)))))))))))))))))
 
 -- ---- frames
 

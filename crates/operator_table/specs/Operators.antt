@@ -60,9 +60,7 @@ families =
     ∷ record { first = at.FLATTENPATH; last = at.FLATTENPATH; run = λ n text s. clip_ops.run n s }
     ∷ record { first = at.PATHBBOX; last = at.PATHFORALL; run = λ n text s. path_build.run n s }
     ∷ record { first = at.INITCLIP; last = at.EOCLIP; run = λ n text s. clip_ops.run n s }
-    ∷ record { first = at.FILL; last = at.EOFILL; run = λ n text s. paint_ops.run n s }
-    ∷ record { first = at.RECTFILL; last = at.RECTFILL; run = λ n text s. paint_ops.run n s }
-    ∷ record { first = at.ERASEPAGE; last = at.COPYPAGE; run = λ n text s. paint_ops.run n s }
+    ∷ record { first = at.FILL; last = at.COPYPAGE; run = λ n text s. paint_ops.run n s }
     ∷ record { first = at.FIRST_DEFAULT_ENTRY; last = at.OPERATOR_COUNT - 1; run = λ n text s. error_ops.run n s }
     ∷ []
 

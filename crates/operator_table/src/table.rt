@@ -76,6 +76,7 @@ impl<M: Mem> Operators<M> for AllOperators {
             places::CLIPPATH => Ok(Act::Fail(ErrorName::Undefined)),
             places::PATHBBOX..=places::PATHFORALL => path_build::run(op, text, state, mem),
             places::INITCLIP..=places::EOCLIP => clip_ops::run(op, text, state, mem),
+            places::RECTCLIP => Ok(Act::Fail(ErrorName::Undefined)),
             places::FILL..=places::EOFILL => paint_ops::run(op, text, state, mem),
             places::STROKE => Ok(Act::Fail(ErrorName::Undefined)),
             places::RECTFILL => paint_ops::run(op, text, state, mem),
