@@ -7,19 +7,17 @@ use ps_kinds::{
 };
 use ps_start::start_registers;
 
-fn settings() -> Settings {
-    Settings {
-        dpi: 72,
-        width: 612,
-        height: 792,
-        keep: false,
-    }
-}
+const SETTINGS: Settings = Settings {
+    dpi: 72,
+    width: 612,
+    height: 792,
+    keep: false,
+};
 
 #[test]
 fn registers_are_told(rt: HostRuntime) -> Result<(), NoMemory> {
     let alloc = rt.alloc();
-    let start = start_registers(alloc, &settings())?;
+    let start = start_registers(alloc, &SETTINGS)?;
     let mut regs = start.copy()?;
     for n in [7, 8] {
         regs.operands.push(Object {
